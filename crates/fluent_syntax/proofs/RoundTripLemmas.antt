@@ -12,8 +12,8 @@ use Rattle.fluent_syntax_grammar.specs.Written.{Text, written}
 use Rattle.fluent_syntax_grammar.specs.Readable.{is_readable}
 use Rattle.fluent_syntax_grammar.specs.Joined.{joined_body}
 use Rattle.fluent_syntax_grammar.specs.RoundTrip.{ReadsAs, tree_of}
-use Rattle.fluent_syntax_grammar.proofs.OneTiling.{same_tilings}
-use Rattle.fluent_syntax_grammar.proofs.SomeTiling.{some_tiling}
+use Rattle.fluent_syntax_grammar.proofs.OneTiling.{tilings_of_text_are_same}
+use Rattle.fluent_syntax_grammar.proofs.SomeTiling.{text_has_tiling}
 use Rattle.fluent_syntax_grammar.proofs.backward.Bodies.{joined_is_readable, joined_is_same}
 use Rattle.fluent_syntax_parser.specs.Answers.{Answers, AnswersTiling}
 use Rattle.fluent_syntax_parser.specs.declared.fault.ParseFault.{ParseFault}
@@ -52,7 +52,7 @@ module _ {S : Type 0} (text : S → List ℕ) where
 
   -- where memory ran out
   pub memory_error_writes_nothing : (tree : BodyTree Text) → AnswersWritten text tree (Err Memory)
-  memory_error_writes_nothing tree = let s = some_tiling One (written false tree) in (s.0, s.1, tt)
+  memory_error_writes_nothing tree = let s = text_has_tiling One (written false tree) in (s.0, s.1, tt)
 
   answer_of_faultless_tiles_has_tree : (t : Text) (tiles : List Tile) (tree : BodyTree Text)
       (result : Result (Resource S) (ParseFault S)) →
@@ -63,9 +63,11 @@ module _ {S : Type 0} (text : S → List ℕ) where
   answer_of_faultless_tiles_has_tree t tiles tree (Err Memory) clean is given = tt
 
   -- A text that reads as a tree is answered with that tree.
-  pub tree_answered : (t : Text) (tree : BodyTree Text) (result : Result (Resource S) (ParseFault S)) →
+  pub reading_that_gives_tree_answers_tiling : (t : Text) (tree : BodyTree Text)
+      (result : Result (Resource S) (ParseFault S)) →
       ReadsAs One t tree → AnswersTiling text (body_map (bytes_at t)) One t result → IsTree text tree result
-  tree_answered t tree result r (tiles, tiling, given) =
+  reading_that_gives_tree_answers_tiling t tree result r (tiles, tiling, given) =
       answer_of_faultless_tiles_has_tree t r.tiles tree result r.no_faults r.same
-      (subst (λ xs. Answers text (body_map (bytes_at t)) xs result) (same_tilings One t tiles r.tiles tiling r.tiling)
+      (subst (λ xs. Answers text (body_map (bytes_at t)) xs result)
+      (tilings_of_text_are_same One t tiles r.tiles tiling r.tiling)
       given)

@@ -6,7 +6,7 @@ use Rattle.fluent_syntax_tree.specs.declared.ast.Resource.{Resource}
 use Rattle.fluent_syntax_tree.specs.declared.edition.Edition.{Edition}
 use Rattle.fluent_syntax_tree.specs.declared.spans.Span.{Span}
 use Rattle.fluent_syntax_grammar.specs.Tiling.{Tile}
-use Rattle.fluent_syntax_grammar.proofs.OneTiling.{same_tilings, runtime_tilings_of_text_are_equal}
+use Rattle.fluent_syntax_grammar.proofs.OneTiling.{tilings_of_text_are_same, runtime_tilings_of_text_are_equal}
 use Rattle.fluent_syntax_parser.specs.Answers.{Answers, AnswersTiling, AnswersRuntimeTiling}
 use Rattle.fluent_syntax_parser.specs.declared.fault.ParseFault.{ParseFault}
 use Rattle.fluent_syntax_parser.specs.declared.fault.ParseFault.TheVariants.{Syntax, Memory}
@@ -32,7 +32,7 @@ module _ {S Z : Type 0} (text : S → List ℕ) (other : Z → List ℕ) (whole 
         SameAnswers text other a b
     answers_of_one_text_are_same (xs, p, h) (ys, q, k) =
         answers_of_one_tiling_are_same ys a b
-        (subst (λ tiles. Answers text whole tiles a) (same_tilings edition t xs ys p q) h) k
+        (subst (λ tiles. Answers text whole tiles a) (tilings_of_text_are_same edition t xs ys p q) h) k
 
     pub runtime_answers_of_one_text_are_same : AnswersRuntimeTiling text whole edition t a →
         AnswersRuntimeTiling other whole edition t b → SameAnswers text other a b

@@ -30,9 +30,10 @@ module _ (t : List ℕ) (place : ℕ) (inside : place ≤ length t) where
       ∙ ap (λ n. drop n (take place t)) (sym from)
 
   -- the sum over them
-  pub line_sum : (f : ℕ → ℕ) (column start found : ℕ) → column ≡ column_at t place → start ≡ place - (column - 1) →
+  pub sum_over_line_is_column : (f : ℕ → ℕ) (column start found : ℕ) → column ≡ column_at t place →
+      start ≡ place - (column - 1) →
       found ≡ 1 + sum_by f (slice_range t start place) → found ≡ 1 + sum_by f (line_before t place)
-  line_sum f column start found same from is =
+  sum_over_line_is_column f column start found same from is =
       is ∙ ap (λ a. 1 + sum_by f (slice_range t a place)) from
       ∙ ap (λ bytes. 1 + sum_by f bytes) (range_from_line_start_is_line_before column same)
 

@@ -13,14 +13,14 @@ use Rattle.fluent_syntax_tree.specs.declared.ast.Attribute.{Attribute}
 use Rattle.fluent_syntax_tree.specs.declared.ast.Entry.{Entry}
 use Rattle.fluent_syntax_tree.specs.declared.edition.Edition.{Edition}
 use Rattle.fluent_syntax_tree.specs.declared.spans.Span.{Span}
-use Rattle.fluent_syntax_tree.proofs.Every.{every_item}
+use Rattle.fluent_syntax_tree.proofs.Every.{item_of_every_list_has_it}
 use Rattle.fluent_syntax_grammar.specs.Body.{alone}
 use Rattle.fluent_syntax_grammar.specs.Places.{BlankBlock}
 use Rattle.fluent_syntax_grammar.specs.Tiling.{Tile, Tiled, TileAt, Tiling, done, next, reads, refuses}
 use Rattle.fluent_syntax_grammar.proofs.Boundaries.{char_boundaries_are_boundaries}
-use Rattle.fluent_syntax_grammar.proofs.Cuts.{block_place}
-use Rattle.fluent_syntax_grammar.proofs.OneTiling.{same_tilings}
-use Rattle.fluent_syntax_grammar.proofs.SoundTiling.{EndedTile, IsTileWellFormed, tile_good}
+use Rattle.fluent_syntax_grammar.proofs.Cuts.{end_of_block_is_place}
+use Rattle.fluent_syntax_grammar.proofs.OneTiling.{tilings_of_text_are_same}
+use Rattle.fluent_syntax_grammar.proofs.SoundTiling.{EndedTile, IsTileWellFormed, tile_at_place_is_ended_tile}
 use Rattle.fluent_syntax_parser.specs.Rest.{tree_of}
 use Rattle.fluent_syntax_parser.specs.Tiles.{TileTo}
 use Rattle.fluent_syntax_parser.specs.declared.tiles.SpannedTile.{SpannedTile}
@@ -33,7 +33,8 @@ pub attribute_name_is_in_text : (t s : List ℕ) (attributes items : List (Attri
     i < length items → a ≡ get_or items i a → s ≡ t → a.id.name.start ≤ length s
 attribute_name_is_in_text t s attributes items i a all same l is text =
     let h : attribute_every (IsTextRange t) (attribute_view (λ s. s) a) =
-    every_item (attribute_every (IsTextRange t)) (attribute_view (λ s. s)) attributes items i a all same l is in
+    item_of_every_list_has_it (attribute_every (IsTextRange t)) (attribute_view (λ s. s)) attributes items i a all same
+    l is in
     subst (λ u. a.id.name.start ≤ length u) (sym text) h.0.1.0
 
 -- one more tile's rows
@@ -69,10 +70,13 @@ module _ (edition : Edition) (t : List ℕ) where
   }
 
   -- a tile gives the rows of its entry
-  rows_given : (s : Span) (tile : Tile) (e : Entry Span) (n : ℕ) → TileAt edition t s.start s.end tile →
+  rows_of_tile_are_entry_rows : (s : Span) (tile : Tile) (e : Entry Span) (n : ℕ) →
+      TileAt edition t s.start s.end tile →
       alone tile ≡ tree_of e ∷ [] → tile_rows t n tile ≡ entry_rows t n s (tree_of e)
-  rows_given s tile e n (reads {e = v} r) given = let same : v ≡ tree_of e = cc in ap (entry_rows t n s) same
-  rows_given s tile e n (refuses r end) given = let same : junk s ≡ tree_of e = cc in ap (entry_rows t n s) same
+  rows_of_tile_are_entry_rows s tile e n (reads {e = v} r) given = let same : v ≡ tree_of e = cc in
+      ap (entry_rows t n s) same
+  rows_of_tile_are_entry_rows s tile e n (refuses r end) given = let same : junk s ≡ tree_of e = cc in
+      ap (entry_rows t n s) same
 
   module _ (utf8 : IsUtf8 t) (i j : ℕ) (found : SpannedTile) (rows : List FtlName) (names : HasNameRowsBefore i rows)
       (to : TileTo edition t i j found) where
@@ -80,8 +84,9 @@ module _ (edition : Edition) (t : List ℕ) where
         (char_boundaries_are_boundaries t utf8) found.span.start found.span.end to.tile
     found_tile_ends_at_boundary =
         let cuts = char_boundaries_are_boundaries t utf8 in
-        tile_good edition t (IsCharBoundary t) cuts found.span.start found.span.end to.tile
-        (block_place t (IsCharBoundary t) cuts i found.span.start names.boundary to.blank) to.inside to.in_place
+        tile_at_place_is_ended_tile edition t (IsCharBoundary t) cuts found.span.start found.span.end to.tile
+        (end_of_block_is_place t (IsCharBoundary t) cuts i found.span.start names.boundary to.blank) to.inside
+        to.in_place
 
     tile_of_entry_has_parts_in_text : (tile : Tile) → TileAt edition t found.span.start found.span.end tile →
         alone tile ≡ tree_of found.entry ∷ [] →
@@ -101,7 +106,8 @@ module _ (edition : Edition) (t : List ℕ) where
     pub name_rows_grow_by_entry_rows : (new : List FtlName) →
         new ≡ rows ++ entry_rows t (length rows) found.span (tree_of found.entry) → HasNameRowsBefore j new
     name_rows_grow_by_entry_rows new added =
-        let own = rows_given found.span to.tile found.entry (length rows) to.in_place to.yields.entry in
+        let own =
+        rows_of_tile_are_entry_rows found.span to.tile found.entry (length rows) to.in_place to.yields.entry in
         let counted : length rows ≡ 0 + length rows = omega arith in
         record {
           boundary = subst (IsCharBoundary t) (sym to.ends) found_tile_ends_at_boundary.place;
@@ -131,5 +137,5 @@ pub tiling_has_its_names : {E : Type 0} (edition : Edition) (t : List ℕ) (tile
     (answer : Result (Vec FtlName Global) E) → IfOk answer (λ rows. NamesTiles edition t rows.items) →
     IfOk answer (λ rows. are_names edition t tiles rows.items)
 tiling_has_its_names edition t tiles tiling (Ok rows) found =
-    found.rows_are ∙ ap (tiles_rows t 0) (same_tilings edition t found.tiles tiles found.has_tiles tiling)
+    found.rows_are ∙ ap (tiles_rows t 0) (tilings_of_text_are_same edition t found.tiles tiles found.has_tiles tiling)
 tiling_has_its_names edition t tiles tiling (Err e) found = found

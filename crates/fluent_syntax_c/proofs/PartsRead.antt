@@ -15,7 +15,7 @@ use Rattle.fluent_syntax_grammar.specs.Body.{faults}
 use Rattle.fluent_syntax_grammar.specs.RoundTrip.{ReadsAs, tree_of}
 use Rattle.fluent_syntax_grammar.specs.Tiling.{Fault}
 use Rattle.fluent_syntax_grammar.specs.Written.{Text}
-use Rattle.fluent_syntax_grammar.proofs.OneTiling.{same_tilings}
+use Rattle.fluent_syntax_grammar.proofs.OneTiling.{tilings_of_text_are_same}
 use Rattle.fluent_syntax_edits.specs.Changes.{Change, inserts, replaces}
 use Rattle.fluent_syntax_edits.specs.Edits.{IsEditResult}
 use Rattle.fluent_syntax_edits.specs.declared.fault.EditFault.{EditFault}
@@ -63,12 +63,12 @@ module _ (edition : Edition) (t : List ℕ) (read : TextTree) (is : IsTextTree e
   pub readable_text_is_read_to_its_tree : (tree : BodyTree Text) → ReadsAs edition t tree →
       resource_view (λ text. text.now) read.tree ≡ tree
   readable_text_is_read_to_its_tree tree reads =
-      let same = same_tilings edition t is.tiles reads.tiles is.has_tiles reads.tiling in
+      let same = tilings_of_text_are_same edition t is.tiles reads.tiles is.has_tiles reads.tiling in
       is.tree_is ∙ ap (tree_of t) same ∙ reads.same
 
   pub readable_text_is_read_clean : (tree : BodyTree Text) → ReadsAs edition t tree → read.outcome ≡ Clean
   readable_text_is_read_clean tree reads =
-      let same = same_tilings edition t is.tiles reads.tiles is.has_tiles reads.tiling in
+      let same = tilings_of_text_are_same edition t is.tiles reads.tiles is.has_tiles reads.tiling in
       is.outcome_is ∙ ap outcome_of same ∙ ap outcome_with reads.no_faults
 
   -- the only entry of a text without errors is what it reads as
@@ -96,7 +96,7 @@ module _ (edition : Edition) (t : List ℕ) (read : TextTree) (is : IsTextTree e
 pub text_reads_as_one_entry : (edition : Edition) (t : List ℕ) (e other : EntryTree Text) → ReadsAs edition t (e ∷ []) →
     ReadsAs edition t (other ∷ []) → e ≡ other
 text_reads_as_one_entry edition t e other reads again =
-    let same = same_tilings edition t reads.tiles again.tiles reads.tiling again.tiling in
+    let same = tilings_of_text_are_same edition t reads.tiles again.tiles reads.tiling again.tiling in
     let trees : e ∷ [] ≡ other ∷ [] = sym reads.same ∙ ap (tree_of t) same ∙ again.same in cc
 
 -- what is said of nothing, where there is nothing

@@ -56,17 +56,22 @@ iff_is_transitive stated answered = ((λ e. answered.0 (stated.0 e)), (λ p. sta
 
 -- Where nothing that nests deeper is answered, no number is wrong and no tree is asked for, what nests deeper is
 -- refused: for its bytes, for want of memory, or for its depth.
-pub refused_deeper : {X : Type 0} (answer : Result X Refusal) (number : ℕ) (Deeper : Type 0) →
+pub deeper_is_refused_by_three_statuses : {X : Type 0} (answer : Result X Refusal) (number : ℕ) (Deeper : Type 0) →
     ((why : Refusal) → (number ≡ refusal_number why) ↔ (answer ≡ Err why)) →
     IfOk answer (λ given. Deeper → ⊥) → (answer ≡ Err Argument → Deeper → ⊥) → (answer ≡ Err Tree → Deeper → ⊥) →
     Deeper →
     (number ≡ 3) ⊎ (number ≡ 4) ⊎ (number ≡ 6)
-refused_deeper (Ok given) number Deeper refused shallow known tree deeper = absurd (shallow deeper)
-refused_deeper (Err Argument) number Deeper refused shallow known tree deeper = absurd (known refl deeper)
-refused_deeper (Err Input) number Deeper refused shallow known tree deeper = inl ((refused Input).1 refl)
-refused_deeper (Err Memory) number Deeper refused shallow known tree deeper = inr (inl ((refused Memory).1 refl))
-refused_deeper (Err Depth) number Deeper refused shallow known tree deeper = inr (inr ((refused Depth).1 refl))
-refused_deeper (Err Tree) number Deeper refused shallow known tree deeper = absurd (tree refl deeper)
+deeper_is_refused_by_three_statuses (Ok given) number Deeper refused shallow known tree deeper = absurd (shallow deeper)
+deeper_is_refused_by_three_statuses (Err Argument) number Deeper refused shallow known tree deeper =
+    absurd (known refl deeper)
+deeper_is_refused_by_three_statuses (Err Input) number Deeper refused shallow known tree deeper =
+    inl ((refused Input).1 refl)
+deeper_is_refused_by_three_statuses (Err Memory) number Deeper refused shallow known tree deeper =
+    inr (inl ((refused Memory).1 refl))
+deeper_is_refused_by_three_statuses (Err Depth) number Deeper refused shallow known tree deeper =
+    inr (inr ((refused Depth).1 refl))
+deeper_is_refused_by_three_statuses (Err Tree) number Deeper refused shallow known tree deeper =
+    absurd (tree refl deeper)
 
 -- what was given is what was asked for, where the answer is
 expected_holds_of_answered_items : {A X E : Type 0} (expected : List A → Outcome → Type 0) (items_of : X → List A)
@@ -118,7 +123,9 @@ answer_is_given number expected AreTexts Long Deeper answer before after count s
   input = λ known. iff_is_transitive (refused Input) (h.input known);
   deep = λ stated. h.deep ((refused Depth).0 stated);
   deeper = λ stated. h.deeper ((refused Depth).0 stated);
-  shallow = λ deeper. refused_deeper answer status Deeper refused h.shallow h.read (λ e d. h.tree e) deeper;
+  shallow =
+      λ deeper. deeper_is_refused_by_three_statuses answer status Deeper refused h.shallow h.read (λ e d. h.tree e)
+      deeper;
 }
 
 -- These are the rows, where they are those that are asked for, the edition is known, all texts are UTF-8, and none
@@ -178,7 +185,8 @@ new_text_is_given number expected AreTexts Long Deeper answer before after count
       deep = λ stated. deep ((refused Depth).0 stated);
       deeper = λ stated. deeper ((refused Depth).0 stated);
       shallow = λ nests.
-          refused_deeper answer status Deeper refused shallow (λ e. read (argument.0 e)) (λ e d. tree e) nests;
+          deeper_is_refused_by_three_statuses answer status Deeper refused shallow (λ e. read (argument.0 e))
+          (λ e d. tree e) nests;
     }
 
 -- An edit that is not made is reported exactly as it was answered.
@@ -187,8 +195,9 @@ pub not_edited_exactly : (number : ℕ) (status : Status) (why : EditRefusal) �
 not_edited_exactly number status why is stated = status_number_is_injective status (NotEdited why) (sym is ∙ stated)
 
 -- no two refusals have one number
-pub same_refusal : (why other : Refusal) → refusal_number why ≡ refusal_number other → why ≡ other
-same_refusal why other e =
+pub equal_refusal_numbers_are_of_same_refusal : (why other : Refusal) → refusal_number why ≡ refusal_number other →
+    why ≡ other
+equal_refusal_numbers_are_of_same_refusal why other e =
     let same : Refused why ≡ Refused other = status_number_is_injective (Refused why) (Refused other) e in cc
 
 -- what is said of an edit that was not made

@@ -9,7 +9,7 @@ use Rattle.fluent_syntax_grammar.specs.Grammar.{family}
 use Rattle.fluent_syntax_grammar.specs.Places.{BlankBlock}
 use Rattle.fluent_syntax_grammar.specs.Tiling.{Tile, Tiled, TileAt, Tiling, done, entry, next, reads, refuses}
 use Rattle.fluent_syntax_grammar.proofs.FunctionalEntries.{entry_is_functional}
-use Rattle.fluent_syntax_grammar.proofs.OneTiling.{same_tilings}
+use Rattle.fluent_syntax_grammar.proofs.OneTiling.{tilings_of_text_are_same}
 use Rattle.fluent_syntax_parser.specs.PartRanges.{HasEntryParts, HasRanges}
 use Rattle.fluent_syntax_parser.specs.Tiles.{TileTo}
 use Rattle.fluent_syntax_parser.specs.declared.ranges.EntryRanges.{EntryRanges}
@@ -88,5 +88,5 @@ pub tiling_has_its_values : {E : Type 0} (edition : Edition) (t : List ℕ) (til
     IfOk answer (λ rows. TilesValues edition t tiles rows.items)
 tiling_has_its_values edition t tiles tiling (Ok rows) found =
     subst (λ ts. TilesValues edition t ts rows.items)
-    (same_tilings edition t found.tiles tiles found.has_tiles tiling) found.values
+    (tilings_of_text_are_same edition t found.tiles tiles found.has_tiles tiling) found.values
 tiling_has_its_values edition t tiles tiling (Err e) found = found

@@ -29,8 +29,8 @@ module _ (edition : Edition) (t : List ℕ) (n : ℕ) (change : Change) where
   found_range_is_range_of_change s (inr x) = x
 
   -- what was made is not read so
-  pub refused : (s : Span) (made : List ℕ) (fault : EditFault) → RangeOf edition t n change (Ok s) →
+  pub refusal_is_edit_result : (s : Span) (made : List ℕ) (fault : EditFault) → RangeOf edition t n change (Ok s) →
       made ≡ new_text edition t n change s → (ReadsChanged edition t n change s made → ⊥) →
       fault ≡ refusal edition change → IsEditResult edition t n change (Err fault)
-  refused s made fault x bytes otherwise e =
+  refusal_is_edit_result s made fault x bytes otherwise e =
       rw e (read_otherwise s x (subst (λ u. ReadsChanged edition t n change s u → ⊥) bytes otherwise))

@@ -8,17 +8,21 @@ use Rattle.fluent_syntax_edits.specs.Changes.{at_number}
 
 module _ {X Y : Type 0} (v : X → Y) where
   -- no item has the number
-  pub none_there : (f : Y → Y) (n : ℕ) (xs : List X) → length xs ≤ n → map v xs ≡ at_number f n (map v xs)
-  none_there f n [] l = refl
-  none_there f zero (x ∷ xs) l = absurd (omega arith)
-  none_there f (suc n) (x ∷ xs) l = ap (λ ys. v x ∷ ys) (none_there f n xs (omega arith))
+  pub past_end_at_number_changes_nothing : (f : Y → Y) (n : ℕ) (xs : List X) → length xs ≤ n →
+      map v xs ≡ at_number f n (map v xs)
+  past_end_at_number_changes_nothing f n [] l = refl
+  past_end_at_number_changes_nothing f zero (x ∷ xs) l = absurd (omega arith)
+  past_end_at_number_changes_nothing f (suc n) (x ∷ xs) l =
+      ap (λ ys. v x ∷ ys) (past_end_at_number_changes_nothing f n xs (omega arith))
 
   -- another item comes there
-  pub set_there : (f : Y → Y) (n : ℕ) (xs : List X) (y d : X) → n < length xs → v y ≡ f (v (get_or xs n d)) →
+  pub setting_item_changes_it_at_number : (f : Y → Y) (n : ℕ) (xs : List X) (y d : X) → n < length xs →
+      v y ≡ f (v (get_or xs n d)) →
       map v (slice_set xs n y) ≡ at_number f n (map v xs)
-  set_there f n [] y d l e = absurd (omega arith)
-  set_there f zero (x ∷ xs) y d l e = ap (λ z. z ∷ map v xs) e
-  set_there f (suc n) (x ∷ xs) y d l e = ap (λ ys. v x ∷ ys) (set_there f n xs y d (omega arith) e)
+  setting_item_changes_it_at_number f n [] y d l e = absurd (omega arith)
+  setting_item_changes_it_at_number f zero (x ∷ xs) y d l e = ap (λ z. z ∷ map v xs) e
+  setting_item_changes_it_at_number f (suc n) (x ∷ xs) y d l e =
+      ap (λ ys. v x ∷ ys) (setting_item_changes_it_at_number f n xs y d (omega arith) e)
 
   -- an item comes before it, or after the last
   pub insert_maps_to_insert : (n m : ℕ) (xs : List X) (y : X) → m ≤ n → m ≤ length xs → (m < n → length xs ≤ m) →

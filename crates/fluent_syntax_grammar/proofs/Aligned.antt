@@ -21,8 +21,8 @@ use Rattle.fluent_syntax_grammar.specs.Tiling.{TileAt, reads, refuses, RuntimeTi
 use Rattle.fluent_syntax_grammar.specs.Tiling.{RuntimeTiling}
 use Rattle.fluent_syntax_tree.specs.declared.edition.Edition.{Edition}
 use Rattle.fluent_syntax_tree.specs.declared.spans.Span.{Span}
-use Rattle.fluent_syntax_grammar.proofs.Functional.{single_block}
-use Rattle.fluent_syntax_grammar.proofs.HoareTriple.{yields_value}
+use Rattle.fluent_syntax_grammar.proofs.Functional.{blank_block_ends_at_one_place}
+use Rattle.fluent_syntax_grammar.proofs.HoareTriple.{yields_reads_its_value_in_place}
 use Rattle.fluent_syntax_grammar.proofs.OneTiling.{tile_of_text_is_one, junk_end_is_unique, whole_line_is_functional}
 use Rattle.fluent_syntax_grammar.proofs.Cuts.{block_goes_on}
 use Rattle.fluent_syntax_grammar.proofs.Sound.{IsPlain}
@@ -37,9 +37,10 @@ use Rattle.fluent_syntax_grammar.proofs.WholeLines.{comment_line_is_whole_line, 
 use Rattle.fluent_syntax_grammar.proofs.CommentFaults.{IsAt, comment_fault_is_after_its_hashes}
 use Rattle.fluent_syntax_grammar.proofs.CommentFaults.{refused_identifier_fails_at_its_start}
 use Rattle.fluent_syntax_grammar.proofs.CommentFaults.{hashes_at_hash_are_at_least_one}
-use Rattle.fluent_syntax_grammar.proofs.Facts.{byte_exists, holds-some, differs, tests_imply, left_true}
+use Rattle.fluent_syntax_grammar.proofs.Facts.{byte_exists, holds-some, absurd_test, tests_imply, and_gives_left}
 use Rattle.fluent_syntax_grammar.proofs.Facts.{at_most_is_less_or_same}
-use Rattle.fluent_syntax_grammar.proofs.Facts.{right_of_false_and_is_false, right_true, lt_or_le, has_inside}
+use Rattle.fluent_syntax_grammar.proofs.Facts.{right_of_false_and_is_false, and_gives_right, lt_or_le}
+use Rattle.fluent_syntax_grammar.proofs.Facts.{byte_that_passes_is_in_text}
 
 -- Tiles of the one and of the other that are the same; comments of the one and dropped lines of the other; and junk
 -- that a malformed comment makes in the one, which in the other is a dropped line and perhaps junk.
@@ -57,8 +58,8 @@ module _ (t : List ℕ) where
   block_is_empty_at_its_end i j (no_line a b) = no_line a b
   block_is_empty_at_its_end i j (line {m = m} a b c) = block_is_empty_at_its_end m j c
 
-  pub hash_there : (i : ℕ) → has_byte t 35 i ≡ true → has t is_entry_byte i ≡ true
-  hash_there i e = tests_imply (λ c. c == 35) is_entry_byte (slice_get t i) hash_is_entry_byte e
+  pub hash_is_at_entry_byte : (i : ℕ) → has_byte t 35 i ≡ true → has t is_entry_byte i ≡ true
+  hash_is_at_entry_byte i e = tests_imply (λ c. c == 35) is_entry_byte (slice_get t i) hash_is_entry_byte e
 
 module _ (edition : Edition) (t : List ℕ) where
   abbrev Runtime : ℕ → List Tile → Type 0
@@ -72,27 +73,30 @@ module _ (edition : Edition) (t : List ℕ) where
 
   -- from the end of a blank block on
   runtime_tiles_hold_past_blank_block : (i s : ℕ) (ys : List Tile) → BlankBlock t i s → Runtime i ys → Runtime s ys
-  runtime_tiles_hold_past_blank_block i s ys b (done c) = let same : length t ≡ s = single_block.same i _ _ c b in
+  runtime_tiles_hold_past_blank_block i s ys b (done c) = let same : length t ≡ s =
+      blank_block_ends_at_one_place.same i _ _ c b in
       done (subst (λ s. BlankBlock t s (length t)) same (block_is_empty_at_its_end t i (length t) c))
   runtime_tiles_hold_past_blank_block i s ys b (next {start = start} c l x m) =
-      let same : start ≡ s = single_block.same i _ _ c b in
+      let same : start ≡ s = blank_block_ends_at_one_place.same i _ _ c b in
       next (subst (λ s. BlankBlock t s start) same (block_is_empty_at_its_end t i start c)) l x m
 
   -- a line that begins with `#` is dropped
   line_at_hash_is_dropped : (i j : ℕ) (ys : List Tile) → has_byte t 35 i ≡ true → IsLine t i j → Runtime i ys
       → AlignedRest j ys (λ xs. xs)
   line_at_hash_is_dropped i j ys e x (done b) =
-      let l = has_inside (λ c. c == 35) t i e in
-      differs (hash_there t i e) (blank_block_has_no_entry_byte t i (length t) i b (omega arith) l)
+      let l = byte_that_passes_is_in_text (λ c. c == 35) t i e in
+      absurd_test (hash_is_at_entry_byte t i e) (blank_block_has_no_entry_byte t i (length t) i b (omega arith) l)
   line_at_hash_is_dropped i j ys e x (next {start = start} {end = end} {tiles = more} b l (drops h w) m) =
-      let same : start ≡ i = single_block.same i _ _ b (block_at_entry_byte_is_empty t i (hash_there t i e)) in
+      let same : start ≡ i =
+      blank_block_ends_at_one_place.same i _ _ b (block_at_entry_byte_is_empty t i (hash_is_at_entry_byte t i e)) in
       let w' = subst (λ k. whole_line t k (Read tt end)) same w in
       let one = (whole_line_is_functional t).same i _ _ w' (line_reads_as_whole_line t i j x) in
       let same_end : end ≡ j = cc in
       record { rest = more; tiled = subst (λ k. Runtime k more) same_end m; aligned = λ xs a. dropped_right a }
   line_at_hash_is_dropped i j ys e x (next {start = start} b l (keeps_tile h y) m) =
-      let same : start ≡ i = single_block.same i _ _ b (block_at_entry_byte_is_empty t i (hash_there t i e)) in
-      differs e (subst (λ k. has_byte t 35 k ≡ false) same h)
+      let same : start ≡ i =
+      blank_block_ends_at_one_place.same i _ _ b (block_at_entry_byte_is_empty t i (hash_is_at_entry_byte t i e)) in
+      absurd_test e (subst (λ k. has_byte t 35 k ≡ false) same h)
 
   comment_lines_are_dropped : (level i j : ℕ) (content : List Span) (ys : List Tile) → 1 ≤ level →
       comment_lines t level i (Read content j) → Runtime i ys → AlignedRest j ys (λ xs. xs)
@@ -107,13 +111,13 @@ module _ (edition : Edition) (t : List ℕ) where
       record { rest = p.rest; tiled = p.tiled; aligned = λ xs a. q.aligned xs (p.aligned xs a) }
 
   -- the lines of a comment are dropped
-  comment_step : (i j : ℕ) (s : Span) (a : EntryTree Span) (ys : List Tile) → has_byte t 35 i ≡ true →
+  comment_tile_keeps_alignment : (i j : ℕ) (s : Span) (a : EntryTree Span) (ys : List Tile) → has_byte t 35 i ≡ true →
       comment_entry t i (Read a j) → Runtime i ys → AlignedRest j ys (λ xs. entry s a ∷ xs)
-  comment_step i j s a ys h (chosen (goes_on {j = m} {a = c} x (goes_on {j = n} {a = more} y z))) r =
+  comment_tile_keeps_alignment i j s a ys h (chosen (goes_on {j = m} {a = c} x (goes_on {j = n} {a = more} y z))) r =
       let one = hashes_at_hash_are_at_least_one t i h in
       let q = line_at_hash_is_dropped i m ys h (comment_line_is_whole_line t (hashes t i) i m c refl x) r in
       let p = comment_lines_are_dropped (hashes t i) m n more q.rest one y q.tiled in
-      let g = yields_value (comment (level_of (hashes t i)) (c ++ more)) a n j z in
+      let g = yields_reads_its_value_in_place (comment (level_of (hashes t i)) (c ++ more)) a n j z in
       record {
         rest = p.rest;
         tiled = subst (λ k. Runtime k p.rest) g.1 p.tiled;
@@ -131,10 +135,11 @@ module _ (edition : Edition) (t : List ℕ) where
 
   runtime_tiles_drop_line_at_hash : (i : ℕ) (ys : List Tile) → has_byte t 35 i ≡ true → Runtime i ys → Dropped i ys
   runtime_tiles_drop_line_at_hash i ys e (done b) =
-      let l = has_inside (λ c. c == 35) t i e in
-      differs (hash_there t i e) (blank_block_has_no_entry_byte t i (length t) i b (omega arith) l)
+      let l = byte_that_passes_is_in_text (λ c. c == 35) t i e in
+      absurd_test (hash_is_at_entry_byte t i e) (blank_block_has_no_entry_byte t i (length t) i b (omega arith) l)
   runtime_tiles_drop_line_at_hash i ys e (next {start = start} {end = end} {tiles = more} b l (drops h w) m) =
-      let same : start ≡ i = single_block.same i _ _ b (block_at_entry_byte_is_empty t i (hash_there t i e)) in
+      let same : start ≡ i =
+      blank_block_ends_at_one_place.same i _ _ b (block_at_entry_byte_is_empty t i (hash_is_at_entry_byte t i e)) in
       record {
         end = end;
         line = whole_line_is_line t i end (subst (λ k. whole_line t k (Read tt end)) same w);
@@ -143,19 +148,20 @@ module _ (edition : Edition) (t : List ℕ) where
         aligned = λ xs a. dropped_right a;
       }
   runtime_tiles_drop_line_at_hash i ys e (next {start = start} b l (keeps_tile h y) m) =
-      let same : start ≡ i = single_block.same i _ _ b (block_at_entry_byte_is_empty t i (hash_there t i e)) in
-      differs e (subst (λ k. has_byte t 35 k ≡ false) same h)
+      let same : start ≡ i =
+      blank_block_ends_at_one_place.same i _ _ b (block_at_entry_byte_is_empty t i (hash_is_at_entry_byte t i e)) in
+      absurd_test e (subst (λ k. has_byte t 35 k ≡ false) same h)
 
   -- ---- junk of a malformed comment
 
   junk_stops_at_entry_byte : (e : ℕ) → e < length t → (starts_entry t e ≡ true) ⊎ (e ≡ length t) →
       has t is_entry_byte e ≡ true
-  junk_stops_at_entry_byte e l (inl h) = right_true (starts_line t e) (has t is_entry_byte e) h
+  junk_stops_at_entry_byte e l (inl h) = and_gives_right (starts_line t e) (has t is_entry_byte e) h
   junk_stops_at_entry_byte e l (inr n) = absurd (omega arith)
 
   no_entry_in_block : (m s e : ℕ) → BlankBlock t m s → m ≤ e → e < s → s ≤ length t → JunkEnd t m e → ⊥
   no_entry_in_block m s e b l x y j =
-      differs (junk_stops_at_entry_byte e (omega arith) j.stop) (blank_block_has_no_entry_byte t m s e b l x)
+      absurd_test (junk_stops_at_entry_byte e (omega arith) j.stop) (blank_block_has_no_entry_byte t m s e b l x)
 
   identifier_starts_with_letter : (i j : ℕ) (a : Span) → identifier t i (Read a j) → has t is_letter i ≡ true
   identifier_starts_with_letter i j a (goes_on at_place (goes_on (chosen given) (first e x))) = e
@@ -170,7 +176,7 @@ module _ (edition : Edition) (t : List ℕ) where
   message_off_entry_byte_is_refused i o e (goes_on at_place (stops {from = from} {to = to} {k = k} x)) =
       (k, from, to, refl, refused_identifier_fails_at_its_start t i from to k x)
   message_off_entry_byte_is_refused i o e (goes_on at_place (goes_on {j = j} {a = a} x y)) =
-      differs (tests_imply is_letter is_entry_byte (slice_get t i) letter_is_entry_byte
+      absurd_test (tests_imply is_letter is_entry_byte (slice_get t i) letter_is_entry_byte
       (identifier_starts_with_letter i j a x)) e
 
   entry_of_other_byte_is_refused : (i : ℕ) (o : Outcome (EntryTree Span)) (b : Option ℕ) → slice_get t i ≡ b →
@@ -178,9 +184,9 @@ module _ (edition : Edition) (t : List ℕ) where
       (o ≡ Refused k from to) × IsAt i k from to
   entry_of_other_byte_is_refused i o None f e x = message_off_entry_byte_is_refused i o e x
   entry_of_other_byte_is_refused i o (Some b) f e (first g x) =
-      differs (holds-some is_entry_byte (slice_get t i) b f (hash_is_entry_byte b g)) e
+      absurd_test (holds-some is_entry_byte (slice_get t i) b f (hash_is_entry_byte b g)) e
   entry_of_other_byte_is_refused i o (Some b) f e (second g (first h x)) =
-      differs (holds-some is_entry_byte (slice_get t i) b f (minus_is_entry_byte b h)) e
+      absurd_test (holds-some is_entry_byte (slice_get t i) b f (minus_is_entry_byte b h)) e
   entry_of_other_byte_is_refused i o (Some b) f e (second g (second h x)) = message_off_entry_byte_is_refused i o e x
 
   -- where no entry may begin, every entry is refused at once
@@ -209,7 +215,7 @@ module _ (edition : Edition) (t : List ℕ) where
       BlankBlock t m s → m ≤ s → s < e → JunkEnd t m e →
       RuntimeTileAt edition t s end tile → Runtime end more → tile ∷ more ≡ ys → AlignedRest e ys (λ xs. refused f ∷ xs)
   runtime_junk_aligns_inside_junk m s e end f tile more ys h b l x j (drops g w) r same =
-      differs (hash_there t s g) (no_entry_byte_starts_line_in_junk m s e h b l x j)
+      absurd_test (hash_is_at_entry_byte t s g) (no_entry_byte_starts_line_in_junk m s e h b l x j)
   runtime_junk_aligns_inside_junk m s e end f tile more ys h b l x j (keeps_tile g (reads {e = a} y)) r same =
       let k = entry_off_entry_byte_is_refused s (Read a end) (no_entry_byte_starts_line_in_junk m s e h b l x j) y in
       let wrong = k.3 in
@@ -268,7 +274,7 @@ module _ (edition : Edition) (t : List ℕ) where
       (starts_entry t e ≡ true) ⊎ (e ≡ length t) → m ≤ e
   line_ends_before_junk_stop i m e x l n (inl h) =
       elim (lt_or_le e m) [
-        | inl y ↦ differs (left_true (starts_line t e) (has t is_entry_byte e) h)
+        | inl y ↦ absurd_test (and_gives_left (starts_line t e) (has t is_entry_byte e) h)
             (no_line_starts_inside_line t i m e x l y)
         | inr y ↦ y
       ]
@@ -284,7 +290,7 @@ module _ (edition : Edition) (t : List ℕ) where
       let place : failing_place k from to ≡ i + hashes t i = plain_kind_fails_at_its_start k at.plain from to ∙ at.at in
       let j' = subst (λ p. JunkEnd t p e) place j in
       let one = hashes_at_hash_are_at_least_one t i h in
-      let l = has_inside (λ c. c == 35) t i h in
+      let l = byte_that_passes_is_in_text (λ c. c == 35) t i h in
       let on = hashes_end_within_line t i d.end d.line in
       let forward = j'.forward in
       let inside = line_ends_in_text t i d.end (omega arith) d.line in
@@ -316,19 +322,24 @@ module _ (edition : Edition) (t : List ℕ) where
   tile_at_hash_aligns : (i j : ℕ) (x : Tile) (ys : List Tile) → has_byte t 35 i ≡ true → TileAt edition t i j x →
       Runtime i ys → AlignedRest j ys (λ xs. x ∷ xs)
   tile_at_hash_aligns i j x ys h (reads {e = e} y) r =
-      comment_step i j (record { start = i; end = j }) e ys h (entry_at_hash_is_comment i (Read e j) h y) r
+      comment_tile_keeps_alignment i j (record { start = i; end = j }) e ys h
+      (entry_at_hash_is_comment i (Read e j) h y) r
   tile_at_hash_aligns i j x ys h (refuses {from = from} {to = to} {k = k} y e) r =
       refused_comment_aligns_as_junk i j from to k
       (record { kind = k; pos = record { start = from; end = to }; slice = record { start = i; end = j } }) ys h
       (entry_at_hash_is_comment i (Refused k from to) h y) e r
 
-  other_step : (i j : ℕ) (x : Tile) (ys : List Tile) → has_byte t 35 i ≡ false → i < length t → BlankBlock t i i →
+  tile_without_hash_keeps_alignment : (i j : ℕ) (x : Tile) (ys : List Tile) → has_byte t 35 i ≡ false → i < length t →
+      BlankBlock t i i →
       TileAt edition t i j x → Runtime i ys → AlignedRest j ys (λ xs. x ∷ xs)
-  other_step i j x ys h l b y (done c) = let same = single_block.same i _ _ c b in absurd (omega arith)
-  other_step i j x ys h l b y (next {start = s} c m (drops g w) r) = let same : s ≡ i = single_block.same i _ _ c b in
-      differs g (subst (λ k. has_byte t 35 k ≡ false) (sym same) h)
-  other_step i j x ys h l b y (next {start = s} {end = end} {tile = tile} {tiles = more} c m (keeps_tile g z) r) =
-      let same : s ≡ i = single_block.same i _ _ c b in
+  tile_without_hash_keeps_alignment i j x ys h l b y (done c) = let same =
+      blank_block_ends_at_one_place.same i _ _ c b in absurd (omega arith)
+  tile_without_hash_keeps_alignment i j x ys h l b y (next {start = s} c m (drops g w) r) = let same : s ≡ i =
+      blank_block_ends_at_one_place.same i _ _ c b in
+      absurd_test g (subst (λ k. has_byte t 35 k ≡ false) (sym same) h)
+  tile_without_hash_keeps_alignment i j x ys h l b y
+      (next {start = s} {end = end} {tile = tile} {tiles = more} c m (keeps_tile g z) r) =
+      let same : s ≡ i = blank_block_ends_at_one_place.same i _ _ c b in
       let z' = subst (λ k. TileAt edition t k end tile) same z in
       let same_end : end ≡ j = (tile_of_text_is_one edition t).same_end i end j tile x z' y in
       let same_tile : x ≡ tile = sym ((tile_of_text_is_one edition t).same_tile i end j tile x z' y) in
@@ -341,13 +352,13 @@ module _ (edition : Edition) (t : List ℕ) where
   step : (i j : ℕ) (x : Tile) (ys : List Tile) (hash : Bool) → has_byte t 35 i ≡ hash → i < length t →
       BlankBlock t i i → TileAt edition t i j x → Runtime i ys → AlignedRest j ys (λ xs. x ∷ xs)
   step i j x ys true h l b y r = tile_at_hash_aligns i j x ys h y r
-  step i j x ys false h l b y r = other_step i j x ys h l b y r
+  step i j x ys false h l b y r = tile_without_hash_keeps_alignment i j x ys h l b y r
 
   tiles_align_with_runtime_tiles : (i : ℕ) (xs ys : List Tile) → Tiled t (TileAt edition t) i xs → Runtime i ys →
       Aligned xs ys
   tiles_align_with_runtime_tiles i xs ys (done b) (done c) = nothing
   tiles_align_with_runtime_tiles i xs ys (done b) (next c l x r) =
-      let same = single_block.same i _ _ b c in absurd (omega arith)
+      let same = blank_block_ends_at_one_place.same i _ _ b c in absurd (omega arith)
   tiles_align_with_runtime_tiles i xs ys (next {start = s} {end = j} {tile = x} {tiles = more} b l y m) r =
       let q = step s j x ys (has_byte t 35 s) refl l (block_is_empty_at_its_end t i s b) y
       (runtime_tiles_hold_past_blank_block i s ys b r) in

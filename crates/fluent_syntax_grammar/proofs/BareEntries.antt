@@ -13,9 +13,9 @@ use Rattle.fluent_syntax_grammar.specs.Tiling.{Tile, Tiled, done, next, entry_of
 use Rattle.fluent_syntax_grammar.specs.Tiling.{drops, keeps_tile}
 use Rattle.fluent_syntax_tree.specs.declared.edition.Edition.{Edition}
 use Rattle.fluent_syntax_tree.specs.declared.spans.Span.{Span}
-use Rattle.fluent_syntax_grammar.proofs.HoareTriple.{HoareTriple, holds_bind, holds_yields, holds_fails_from}
+use Rattle.fluent_syntax_grammar.proofs.HoareTriple.{HoareTriple, holds_bind, yields_meets_triple, holds_fails_from}
 use Rattle.fluent_syntax_grammar.proofs.Runtime.{IsBare, IsBareTile}
-use Rattle.fluent_syntax_grammar.proofs.Facts.{differs}
+use Rattle.fluent_syntax_grammar.proofs.Facts.{absurd_test}
 
 abbrev AnyPlace : ℕ → Type 0
 AnyPlace i = Unit {0}
@@ -36,13 +36,13 @@ module _ (edition : Edition) (t : List ℕ) where
   message_of_parts_is_bare : (start : ℕ) (id : Span) (value : Option (PatternTree Span))
       (rest : List (AttributeTree Span)) → HoareTriple AnyPlace (message_with t start id value rest) Bare AnyFault
   message_of_parts_is_bare start id None [] = holds_fails_from (λ i p. tt)
-  message_of_parts_is_bare start id None (a ∷ rest) = holds_yields (λ i p. refl)
-  message_of_parts_is_bare start id (Some value) rest = holds_yields (λ i p. refl)
+  message_of_parts_is_bare start id None (a ∷ rest) = yields_meets_triple (λ i p. refl)
+  message_of_parts_is_bare start id (Some value) rest = yields_meets_triple (λ i p. refl)
 
   term_of_parts_is_bare : (start : ℕ) (id : Span) (value : Option (PatternTree Span))
       (rest : List (AttributeTree Span)) → HoareTriple AnyPlace (term_with t start id value rest) Bare AnyFault
   term_of_parts_is_bare start id None rest = holds_fails_from (λ i p. tt)
-  term_of_parts_is_bare start id (Some value) rest = holds_yields (λ i p. refl)
+  term_of_parts_is_bare start id (Some value) rest = yields_meets_triple (λ i p. refl)
 
   pub read_message_is_bare : HoareTriple AnyPlace (message_entry edition t) Bare AnyFault
   read_message_is_bare =
@@ -70,7 +70,8 @@ module _ (edition : Edition) (t : List ℕ) where
   entry_is_bare : (i j : ℕ) (e : EntryTree Span) (o : Option ℕ) → slice_get t i ≡ o → has_byte t 35 i ≡ false →
       entry_of edition t (family edition t) o i (Read e j) → IsBare e
   entry_is_bare i j e None p h x = read_message_is_bare.on_read i j e tt x
-  entry_is_bare i j e (Some b) p h (first f x) = differs (byte_equal_to_hash_passes_hash_test i b (slice_get t i) p f) h
+  entry_is_bare i j e (Some b) p h (first f x) =
+      absurd_test (byte_equal_to_hash_passes_hash_test i b (slice_get t i) p f) h
   entry_is_bare i j e (Some b) p h (second f (first g x)) = read_term_is_bare.on_read i j e tt x
   entry_is_bare i j e (Some b) p h (second f (second g x)) = read_message_is_bare.on_read i j e tt x
 

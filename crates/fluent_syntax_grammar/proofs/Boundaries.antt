@@ -6,8 +6,8 @@ use Rattle.std.proofs.lemmas.Str.{IsCharBoundary-end, IsCharBoundary-before_asci
 use Rattle.fluent_syntax_grammar.proofs.Cuts.{AsciiAt, AreBoundaries}
 use Rattle.fluent_syntax_grammar.proofs.SoundStrings.{InText}
 
-pub text_cuts : (t : List ℕ) → AreBoundaries t (InText t)
-text_cuts t = record {
+pub places_in_text_are_boundaries : (t : List ℕ) → AreBoundaries t (InText t)
+places_in_text_are_boundaries t = record {
   in_text = λ i p. p;
   before = λ i a. let l = slice_get_within t i a.byte a.in_place in omega arith;
   after = λ i a. let l = slice_get_within t i a.byte a.in_place in omega arith;

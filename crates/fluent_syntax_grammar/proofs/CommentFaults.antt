@@ -7,8 +7,9 @@ use Rattle.fluent_syntax_grammar.specs.Construct.{Refused, chosen}
 use Rattle.fluent_syntax_grammar.specs.Tokens.{identifier, spanned, token, past_eol, optional_eol, rest_of_line}
 use Rattle.fluent_syntax_grammar.specs.Comments.{hashes, comment_text, comment_rest, comment_lines, comment_of}
 use Rattle.fluent_syntax_grammar.specs.Comments.{comment_entry}
-use Rattle.fluent_syntax_grammar.proofs.HoareTriple.{HoareTriple, holds_weaker, holds_bind, holds_yields, holds_here}
-use Rattle.fluent_syntax_grammar.proofs.HoareTriple.{holds_fails, holds_skip, holds_peek, holds_branch_on}
+use Rattle.fluent_syntax_grammar.proofs.HoareTriple.{HoareTriple, holds_weaker, holds_bind, yields_meets_triple}
+use Rattle.fluent_syntax_grammar.proofs.HoareTriple.{here_meets_triple}
+use Rattle.fluent_syntax_grammar.proofs.HoareTriple.{fails_meets_triple, holds_skip, holds_peek, holds_branch_on}
 use Rattle.fluent_syntax_grammar.proofs.Sound.{IsPlain}
 
 -- refused at the place, for a kind that no message and no term lacks its field by
@@ -38,11 +39,11 @@ at_least_one_hash true true true e = omega arith
 module _ (t : List ℕ) (F : Kind → ℕ → ℕ → Type 0) where
   spanned_is_never_refused : (start : ℕ) → HoareTriple AnyPlace (spanned start) AnyValue F
   spanned_is_never_refused start =
-      holds_bind {mid = AnyValue} (holds_here (λ i p. tt)) (λ end. holds_yields (λ i p. tt))
+      holds_bind {mid = AnyValue} (here_meets_triple (λ i p. tt)) (λ end. yields_meets_triple (λ i p. tt))
 
   past_eol_is_never_refused : (o : Option ℕ) →
       HoareTriple (λ i. AnyPlace i × (after_eol t i ≡ o)) (past_eol o) AnyValue F
-  past_eol_is_never_refused None = holds_yields (λ i p. tt)
+  past_eol_is_never_refused None = yields_meets_triple (λ i p. tt)
   past_eol_is_never_refused (Some k) = holds_skip (λ i j p w. tt)
 
   optional_eol_is_never_refused : HoareTriple AnyPlace (optional_eol t) AnyValue F
@@ -50,7 +51,7 @@ module _ (t : List ℕ) (F : Kind → ℕ → ℕ → Type 0) where
 
   rest_of_line_is_never_refused : HoareTriple AnyPlace (rest_of_line t) AnyValue F
   rest_of_line_is_never_refused =
-      holds_bind {mid = AnyValue} (holds_here (λ i p. tt))
+      holds_bind {mid = AnyValue} (here_meets_triple (λ i p. tt))
       (λ start. holds_bind {mid = AnyValue} (holds_skip (λ i j p w. tt)) (λ u. spanned_is_never_refused start))
 
   comment_lines_have_no_fault : (level : ℕ) → HoareTriple AnyPlace (comment_lines t level) AnyValue F
@@ -66,25 +67,25 @@ module _ (t : List ℕ) (p : ℕ) where
   token_fault_is_at_its_start b =
       holds_bind {mid = λ found i. found ≡ false → i ≡ p} (holds_peek (λ found. holds_branch_on
       (λ e. holds_bind {mid = AnyValue} (holds_skip (λ i j q w. tt))
-      (λ u. holds_yields (λ i q no. true_is_not_false no)))
-      (λ e. holds_yields (λ i q no. q.0))))
-      (λ found. holds_branch_on (λ e. holds_yields (λ i q. tt))
-      (λ e. holds_fails (λ i q. record { at = q e; plain = tt })))
+      (λ u. yields_meets_triple (λ i q no. true_is_not_false no)))
+      (λ e. yields_meets_triple (λ i q no. q.0))))
+      (λ found. holds_branch_on (λ e. yields_meets_triple (λ i q. tt))
+      (λ e. fails_meets_triple (λ i q. record { at = q e; plain = tt })))
 
   comment_text_fault_is_at_its_start : (eol : Bool) → HoareTriple (λ i. i ≡ p) (comment_text t eol) AnyValue (IsAt p)
   comment_text_fault_is_at_its_start true =
-      holds_bind {mid = AnyValue} (holds_here (λ i q. tt)) (λ i. spanned_is_never_refused t (IsAt p) i)
+      holds_bind {mid = AnyValue} (here_meets_triple (λ i q. tt)) (λ i. spanned_is_never_refused t (IsAt p) i)
   comment_text_fault_is_at_its_start false =
       holds_bind (token_fault_is_at_its_start 32) (λ u. rest_of_line_is_never_refused t (IsAt p))
 
   comment_rest_fault_is_at_its_start : (o : Option ℕ) → HoareTriple (λ i. i ≡ p) (comment_rest t o) AnyValue (IsAt p)
-  comment_rest_fault_is_at_its_start None = holds_yields (λ i q. tt)
+  comment_rest_fault_is_at_its_start None = yields_meets_triple (λ i q. tt)
   comment_rest_fault_is_at_its_start (Some b) =
       holds_bind {mid = AnyValue}
       (holds_peek
       (λ eol. holds_weaker {pre = λ i. i ≡ p} (λ i q. q.0) (λ a j x. x) (λ k from to x. x)
       (comment_text_fault_is_at_its_start eol)))
-      (λ content. holds_bind (optional_eol_is_never_refused t (IsAt p)) (λ u. holds_yields (λ i q. tt)))
+      (λ content. holds_bind (optional_eol_is_never_refused t (IsAt p)) (λ u. yields_meets_triple (λ i q. tt)))
 
 module _ (t : List ℕ) where
   comment_of_level_fault_is_after_hashes : (i level : ℕ) →
@@ -95,7 +96,7 @@ module _ (t : List ℕ) where
       (λ o. holds_weaker {pre = λ j. j ≡ i + level} (λ j q. q.0) (λ a j x. x) (λ k from to x. x)
       (comment_rest_fault_is_at_its_start t (i + level) o))))
       (λ content.
-      holds_bind (comment_lines_have_no_fault t (IsAt (i + level)) level) (λ rest. holds_yields (λ j q. tt)))
+      holds_bind (comment_lines_have_no_fault t (IsAt (i + level)) level) (λ rest. yields_meets_triple (λ j q. tt)))
 
   -- a comment is refused at the place after its hashes
   pub comment_fault_is_after_its_hashes : (i from to : ℕ) (k : Kind) → comment_entry t i (Refused k from to) →
@@ -110,11 +111,11 @@ module _ (t : List ℕ) where
 
   identifier_fault_is_at_its_start : (p : ℕ) → HoareTriple (λ i. i ≡ p) (identifier t) AnyValue (IsAt p)
   identifier_fault_is_at_its_start p =
-      holds_bind {mid = λ start i. i ≡ p} (holds_here (λ i q. q))
-      (λ start. holds_bind {mid = λ letter i. i ≡ p} (holds_peek (λ letter. holds_yields (λ i q. q.0)))
+      holds_bind {mid = λ start i. i ≡ p} (here_meets_triple (λ i q. q))
+      (λ start. holds_bind {mid = λ letter i. i ≡ p} (holds_peek (λ letter. yields_meets_triple (λ i q. q.0)))
       (λ letter. holds_branch_on
       (λ e. holds_bind {mid = AnyValue} (holds_skip (λ i j q w. tt)) (λ u. spanned_is_never_refused t (IsAt p) start))
-      (λ e. holds_fails (λ i q. record { at = q; plain = tt }))))
+      (λ e. fails_meets_triple (λ i q. record { at = q; plain = tt }))))
 
   -- a name is refused at its place
   pub refused_identifier_fails_at_its_start : (i from to : ℕ) (k : Kind) → identifier t i (Refused k from to) →

@@ -9,9 +9,9 @@ use Rattle.std.specs.Char.{is_ascii_hexdigit}
 use Rattle.fluent_syntax_grammar.specs.Places.{holds, LongestRun, ByteRun, has, has_byte, has_eol, after_eol}
 use Rattle.fluent_syntax_grammar.specs.Places.{is_line_place, is_blank_place, Blank, BlankBlock, no_line, line}
 use Rattle.fluent_syntax_grammar.specs.Lines.{is_run_place}
-use Rattle.fluent_syntax_grammar.proofs.Facts.{byte_exists, longest_run_in_text, one_and_one_on_is_two_on}
-use Rattle.fluent_syntax_grammar.proofs.Facts.{plus_one_is_successor, has_inside, some_is_not_none}
-use Rattle.fluent_syntax_grammar.proofs.Tests.{or_cases}
+use Rattle.fluent_syntax_grammar.proofs.Facts.{byte_exists, longest_run_ends_in_bounds, one_and_one_on_is_two_on}
+use Rattle.fluent_syntax_grammar.proofs.Facts.{plus_one_is_successor, byte_that_passes_is_in_text, some_is_not_none}
+use Rattle.fluent_syntax_grammar.proofs.Tests.{or_has_true_side}
 
 -- there is an ASCII byte
 pub record AsciiAt (t : List ℕ) (i : ℕ) : Type 0 where
@@ -32,15 +32,17 @@ pub record AreBoundaries (t : List ℕ) (P : ℕ → Type 0) : Type 0 where
 pub record IsAsciiSet (test : ℕ → Bool) : Type 0 where
   pub small : (b : ℕ) → test b ≡ true → b < 128
 
-pub has_ascii : (t : List ℕ) (test : ℕ → Bool) (i : ℕ) → IsAsciiSet test → has t test i ≡ true → AsciiAt t i
-has_ascii t test i s e = let f = byte_exists test (slice_get t i) e in
+pub byte_of_ascii_set_is_ascii : (t : List ℕ) (test : ℕ → Bool) (i : ℕ) → IsAsciiSet test → has t test i ≡ true →
+    AsciiAt t i
+byte_of_ascii_set_is_ascii t test i s e = let f = byte_exists test (slice_get t i) e in
     record { byte = f.0; in_place = f.1; ascii = s.small f.0 f.2 }
 
 byte_equal_to_ascii_is_ascii : (c : ℕ) → c < 128 → (b : ℕ) → (b == c) ≡ true → b < 128
 byte_equal_to_ascii_is_ascii c l b e = grind (arith, nat_tests)
 
-pub ascii_byte : (t : List ℕ) (c i : ℕ) → c < 128 → has_byte t c i ≡ true → AsciiAt t i
-ascii_byte t c i l e = has_ascii t (λ b. b == c) i (record { small = byte_equal_to_ascii_is_ascii c l }) e
+pub byte_below_128_is_ascii : (t : List ℕ) (c i : ℕ) → c < 128 → has_byte t c i ≡ true → AsciiAt t i
+byte_below_128_is_ascii t c i l e =
+    byte_of_ascii_set_is_ascii t (λ b. b == c) i (record { small = byte_equal_to_ascii_is_ascii c l }) e
 
 pub space_is_ascii_set : IsAsciiSet is_space
 space_is_ascii_set = record { small = λ b e. grind (arith, nat_tests) }
@@ -72,8 +74,8 @@ eol_is_lf_or_crlf t i k e = eol_by_tests_is_lf_or_crlf (has_byte t lf i) (has_by
 -- and it ends within the text
 pub line_end_is_in_text : (t : List ℕ) (i k : ℕ) → after_eol t i ≡ Some k → k ≤ length t
 line_end_is_in_text t i k e = elim (eol_is_lf_or_crlf t i k e) [
-  | inl x ↦ (let l = has_inside (λ b. b == lf) t i x.0 in let f = x.1 in omega arith)
-  | inr x ↦ (let l = has_inside (λ b. b == lf) t (i + 1) x.1 in let f = x.2 in omega arith)
+  | inl x ↦ (let l = byte_that_passes_is_in_text (λ b. b == lf) t i x.0 in let f = x.1 in omega arith)
+  | inr x ↦ (let l = byte_that_passes_is_in_text (λ b. b == lf) t (i + 1) x.1 in let f = x.2 in omega arith)
 ]
 
 first_or_second_is_true : (a b c : Bool) → (a || b && c) ≡ true → (a ≡ true) ⊎ (b ≡ true)
@@ -84,12 +86,12 @@ first_or_second_is_true false false c e = cc
 eol_is_ascii : (t : List ℕ) (i : ℕ) → has_eol t i ≡ true → AsciiAt t i
 eol_is_ascii t i e =
     elim (first_or_second_is_true (has_byte t lf i) (has_byte t cr i) (has_byte t lf (i + 1)) e)
-    [ inl x ↦ ascii_byte t lf i (omega arith) x | inr x ↦ ascii_byte t cr i (omega arith) x ]
+    [ inl x ↦ byte_below_128_is_ascii t lf i (omega arith) x | inr x ↦ byte_below_128_is_ascii t cr i (omega arith) x ]
 
 pub blank_is_ascii : (t : List ℕ) (i : ℕ) → is_blank_place t i ≡ true → AsciiAt t i
 blank_is_ascii t i e =
-    elim (or_cases (has_byte t space i) (has_eol t i) e)
-    [ inl x ↦ ascii_byte t space i (omega arith) x | inr x ↦ eol_is_ascii t i x ]
+    elim (or_has_true_side (has_byte t space i) (has_eol t i) e)
+    [ inl x ↦ byte_below_128_is_ascii t space i (omega arith) x | inr x ↦ eol_is_ascii t i x ]
 
 -- ---- words
 
@@ -164,7 +166,7 @@ module _ (t : List ℕ) (P : ℕ → Type 0) (cuts : AreBoundaries t P) where
 
   pub byte_run_ends_at_boundary : (set : ℕ → Bool) → IsAsciiSet set → (i j : ℕ) → P i → ByteRun t set i j → P j
   byte_run_ends_at_boundary set s i j p w =
-      longest_run_places (has t set) (λ k e. has_ascii t set k s e) i j p w j w.forward (omega arith)
+      longest_run_places (has t set) (λ k e. byte_of_ascii_set_is_ascii t set k s e) i j p w j w.forward (omega arith)
 
   pub blank_ends_at_boundary : (i j : ℕ) → P i → Blank t i j → P j
   blank_ends_at_boundary i j p w =
@@ -173,14 +175,14 @@ module _ (t : List ℕ) (P : ℕ → Type 0) (cuts : AreBoundaries t P) where
   pub eol_ends_at_boundary : (i k : ℕ) → after_eol t i ≡ Some k → P k
   eol_ends_at_boundary i k e =
       elim (eol_is_lf_or_crlf t i k e) [
-        | inl x ↦ subst P (sym x.1) (cuts.after i (ascii_byte t lf i (omega arith) x.0))
+        | inl x ↦ subst P (sym x.1) (cuts.after i (byte_below_128_is_ascii t lf i (omega arith) x.0))
         | inr x ↦ subst P (one_and_one_on_is_two_on i ∙ sym x.2)
-            (cuts.after (i + 1) (ascii_byte t lf (i + 1) (omega arith) x.1))
+            (cuts.after (i + 1) (byte_below_128_is_ascii t lf (i + 1) (omega arith) x.1))
       ]
 
-  pub block_place : (i j : ℕ) → P i → BlankBlock t i j → P j
-  block_place i j p (no_line a b) = p
-  block_place i j p (line {m = m} a b c) = block_place m j (eol_ends_at_boundary _ m b) c
+  pub end_of_block_is_place : (i j : ℕ) → P i → BlankBlock t i j → P j
+  end_of_block_is_place i j p (no_line a b) = p
+  end_of_block_is_place i j p (line {m = m} a b c) = end_of_block_is_place m j (eol_ends_at_boundary _ m b) c
 
   stop_in_text_is_boundary : (j : ℕ) → j ≤ length t → (slice_get t j ≡ None) ⊎ AsciiAt t j → P j
   stop_in_text_is_boundary j l x =
@@ -198,12 +200,12 @@ module _ (t : List ℕ) (P : ℕ → Type 0) (cuts : AreBoundaries t P) where
   pub line_run_ends_at_boundary : (i j : ℕ) → P i → LongestRun (is_line_place t) i j → P j
   line_run_ends_at_boundary i j p s =
       stop_in_text_is_boundary j
-      (longest_run_in_text (length t) (is_line_place t) (line_place_is_inside_text t) i j (cuts.in_text i p) s)
+      (longest_run_ends_in_bounds (length t) (is_line_place t) (line_place_is_inside_text t) i j (cuts.in_text i p) s)
       (line_stops_at_end_or_ascii_byte t j s.longest)
 
   -- a run stops at a line end, a brace or the text's end
   pub text_run_ends_at_boundary : (i j : ℕ) → P i → LongestRun (is_run_place t) i j → P j
   text_run_ends_at_boundary i j p s =
       stop_in_text_is_boundary j
-      (longest_run_in_text (length t) (is_run_place t) (run_place_is_inside_text t) i j (cuts.in_text i p) s)
+      (longest_run_ends_in_bounds (length t) (is_run_place t) (run_place_is_inside_text t) i j (cuts.in_text i p) s)
       (run_ends_at_end_or_ascii t j s.longest)

@@ -81,9 +81,9 @@ branch_on_is_functional {b = b} {c = c} {d = d} cf df = record { same = branch_o
 
 module _ {A S B : Type 0} (next : S → Construct (More A S)) (add : A → B → B) (none : B)
     (f : (s : S) → IsFunctional (next s)) where
-  list_moved : (q r : S) (k j : ℕ) (o : Outcome B) → q ≡ r → k ≡ j → many next add none q k o →
+  many_at_equal_places_is_same : (q r : S) (k j : ℕ) (o : Outcome B) → q ≡ r → k ≡ j → many next add none q k o →
       many next add none r j o
-  list_moved q r k j o e f x =
+  many_at_equal_places_is_same q r k j o e f x =
       subst (λ r. many next add none r j o) e (subst (λ j. many next add none q j o) f x)
 
   many_unique : (s : S) (i : ℕ) (o p : Outcome B) → many next add none s i o → many next add none s i p → o ≡ p
@@ -102,13 +102,15 @@ module _ {A S B : Type 0} (next : S → Construct (More A S)) (add : A → B →
       let e = (f s).same i _ _ x z in
       let same_r : q ≡ r = cc in
       let same_j : h ≡ j = cc in
-      let same : Read xs m ≡ Read ys u = many_unique r j _ _ y (list_moved q r h j _ same_r same_j w) in cc
+      let same : Read xs m ≡ Read ys u =
+      many_unique r j _ _ y (many_at_equal_places_is_same q r h j _ same_r same_j w) in cc
   many_unique s i o p (item_and_more {later = r} {j = j} {end = m} {rest = xs} x y)
       (stops_later {later = q} {j = h} {from = u} {to = v} {k = l} z w) =
       let e = (f s).same i _ _ x z in
       let same_r : q ≡ r = cc in
       let same_j : h ≡ j = cc in
-      let same : Read xs m ≡ Refused l u v = many_unique r j _ _ y (list_moved q r h j _ same_r same_j w) in cc
+      let same : Read xs m ≡ Refused l u v =
+      many_unique r j _ _ y (many_at_equal_places_is_same q r h j _ same_r same_j w) in cc
   many_unique s i o p (stops_later x y) (list_ends z) = let e = (f s).same i _ _ x z in cc
   many_unique s i o p (stops_later x y) (list_stops z) = let e = (f s).same i _ _ x z in cc
   many_unique s i o p (stops_later {later = r} {j = j} {from = m} {to = n} {k = k} x y)
@@ -116,13 +118,15 @@ module _ {A S B : Type 0} (next : S → Construct (More A S)) (add : A → B →
       let e = (f s).same i _ _ x z in
       let same_r : q ≡ r = cc in
       let same_j : h ≡ j = cc in
-      let same : Refused k m n ≡ Read ys u = many_unique r j _ _ y (list_moved q r h j _ same_r same_j w) in cc
+      let same : Refused k m n ≡ Read ys u =
+      many_unique r j _ _ y (many_at_equal_places_is_same q r h j _ same_r same_j w) in cc
   many_unique s i o p (stops_later {later = r} {j = j} {from = m} {to = n} {k = k} x y)
       (stops_later {later = q} {j = h} {from = u} {to = v} {k = l} z w) =
       let e = (f s).same i _ _ x z in
       let same_r : q ≡ r = cc in
       let same_j : h ≡ j = cc in
-      let same : Refused k m n ≡ Refused l u v = many_unique r j _ _ y (list_moved q r h j _ same_r same_j w) in cc
+      let same : Refused k m n ≡ Refused l u v =
+      many_unique r j _ _ y (many_at_equal_places_is_same q r h j _ same_r same_j w) in cc
 
 pub many_is_functional : {A S B : Type 0} {next : S → Construct (More A S)} {add : A → B → B} {none : B} {s : S} →
     ((s : S) → IsFunctional (next s)) → IsFunctional (many next add none s)
@@ -158,8 +162,8 @@ blank_block_end_is_unique t i j k (line {m = m} a b c) (line {m = n} d e f) =
     let same_m : m ≡ n = cc in
     blank_block_end_is_unique t m j k c (subst (λ n. BlankBlock t n k) (sym same_m) f)
 
-pub single_block : {t : List ℕ} → IsFunctionalRelation (BlankBlock t)
-single_block {t = t} = record { same = blank_block_end_is_unique t }
+pub blank_block_ends_at_one_place : {t : List ℕ} → IsFunctionalRelation (BlankBlock t)
+blank_block_ends_at_one_place {t = t} = record { same = blank_block_end_is_unique t }
 
 pub ruleset functional = (
   bind_is_functional,
@@ -174,5 +178,5 @@ pub ruleset functional = (
   longest_run_is_functional,
   steps_is_functional,
   jumps_to_is_functional,
-  single_block,
+  blank_block_ends_at_one_place,
 )

@@ -27,12 +27,14 @@ holds_weaker p r f h = record {
 module _ {A B : Type 0} (pre : ℕ → Type 0) (c : Construct A) (f : A → Construct B) (mid : A → ℕ → Type 0)
     (read : B → ℕ → Type 0) (refused : Kind → ℕ → ℕ → Type 0) (h : HoareTriple pre c mid refused)
     (g : (a : A) → HoareTriple (mid a) (f a) read refused) where
-  bind_read : (i j : ℕ) (b : B) → pre i → (c >>= f) i (Read b j) → read b j
-  bind_read i j b p (goes_on {j = m} {a = a} x y) = (g a).on_read m j b (h.on_read i m a p x) y
+  read_bind_meets_postcondition : (i j : ℕ) (b : B) → pre i → (c >>= f) i (Read b j) → read b j
+  read_bind_meets_postcondition i j b p (goes_on {j = m} {a = a} x y) = (g a).on_read m j b (h.on_read i m a p x) y
 
-  bind_refused : (i from to : ℕ) (k : Kind) → pre i → (c >>= f) i (Refused k from to) → refused k from to
-  bind_refused i from to k p (stops x) = h.on_refused i from to k p x
-  bind_refused i from to k p (goes_on {j = m} {a = a} x y) = (g a).on_refused m from to k (h.on_read i m a p x) y
+  refused_bind_meets_postcondition : (i from to : ℕ) (k : Kind) → pre i → (c >>= f) i (Refused k from to) →
+      refused k from to
+  refused_bind_meets_postcondition i from to k p (stops x) = h.on_refused i from to k p x
+  refused_bind_meets_postcondition i from to k p (goes_on {j = m} {a = a} x y) =
+      (g a).on_refused m from to k (h.on_read i m a p x) y
 
 -- what holds after the first part is where the second one begins
 pub holds_bind :
@@ -41,7 +43,11 @@ pub holds_bind :
     HoareTriple pre c mid refused → ((a : A) → HoareTriple (mid a) (f a) read refused) →
     HoareTriple pre (c >>= f) read refused
 holds_bind {pre = pre} {c = c} {f = f} {mid = mid} {read = read} {refused = refused} h g =
-    record { on_read = bind_read pre c f mid read refused h g; on_refused = bind_refused pre c f mid read refused h g }
+    record {
+      on_read = read_bind_meets_postcondition pre c f mid read refused h g;
+      on_refused =
+          refused_bind_meets_postcondition pre c f mid read refused h g;
+    }
 
 yields_reads_value : {A : Type 0} (pre : ℕ → Type 0) (a : A) (read : A → ℕ → Type 0) → ((i : ℕ) → pre i → read a i) →
     (i j : ℕ) (b : A) → pre i → yields a i (Read b j) → read b j
@@ -51,12 +57,13 @@ yields_never_refuses : {A : Type 0} (a : A) (X : Type 0) (i from to : ℕ) (k : 
 yields_never_refuses a X i from to k x = elim x [ ]
 
 -- what was given is the value, at the same place
-pub yields_value : {A : Type 0} (a b : A) (i j : ℕ) → yields a i (Read b j) → (a ≡ b) × (i ≡ j)
-yields_value a b i j given = (refl, refl)
+pub yields_reads_its_value_in_place : {A : Type 0} (a b : A) (i j : ℕ) → yields a i (Read b j) → (a ≡ b) × (i ≡ j)
+yields_reads_its_value_in_place a b i j given = (refl, refl)
 
-pub holds_yields : {A : Type 0} {pre : ℕ → Type 0} {a : A} {read : A → ℕ → Type 0} {refused : Kind → ℕ → ℕ → Type 0} →
+pub yields_meets_triple : {A : Type 0} {pre : ℕ → Type 0} {a : A} {read : A → ℕ → Type 0}
+    {refused : Kind → ℕ → ℕ → Type 0} →
     ((i : ℕ) → pre i → read a i) → HoareTriple pre (yields a) read refused
-holds_yields {pre = pre} {a = a} {read = read} {refused = refused} h =
+yields_meets_triple {pre = pre} {a = a} {read = read} {refused = refused} h =
     record {
       on_read = yields_reads_value pre a read h;
       on_refused = λ i from to k p x. yields_never_refuses a (refused k from to) i from to k x;
@@ -69,9 +76,9 @@ here_reads_its_place pre read h i j a p at_place = h i p
 here_is_never_refused : (X : Type 0) (i from to : ℕ) (k : Kind) → here i (Refused k from to) → X
 here_is_never_refused X i from to k x = elim x [ ]
 
-pub holds_here : {pre : ℕ → Type 0} {read : ℕ → ℕ → Type 0} {refused : Kind → ℕ → ℕ → Type 0} →
+pub here_meets_triple : {pre : ℕ → Type 0} {read : ℕ → ℕ → Type 0} {refused : Kind → ℕ → ℕ → Type 0} →
     ((i : ℕ) → pre i → read i i) → HoareTriple pre here read refused
-holds_here {pre = pre} {read = read} {refused = refused} h =
+here_meets_triple {pre = pre} {read = read} {refused = refused} h =
     record {
       on_read = here_reads_its_place pre read h;
       on_refused = λ i from to k p x. here_is_never_refused (refused k from to) i from to k x;
@@ -85,9 +92,10 @@ fails_refuses_at_its_place : {A : Type 0} (pre : ℕ → Type 0) (k : Kind) (ref
     fails {A = A} k i (Refused l from to) → refused l from to
 fails_refuses_at_its_place pre k refused h i from to l p (failed e) = rw e (h i p)
 
-pub holds_fails : {A : Type 0} {pre : ℕ → Type 0} {k : Kind} {read : A → ℕ → Type 0} {refused : Kind → ℕ → ℕ → Type 0} →
+pub fails_meets_triple : {A : Type 0} {pre : ℕ → Type 0} {k : Kind} {read : A → ℕ → Type 0}
+    {refused : Kind → ℕ → ℕ → Type 0} →
     ((i : ℕ) → pre i → refused k i (i + 1)) → HoareTriple pre (fails k) read refused
-holds_fails {pre = pre} {k = k} {read = read} {refused = refused} h =
+fails_meets_triple {pre = pre} {k = k} {read = read} {refused = refused} h =
     record {
       on_read = λ i j a p x. fails_never_reads k (read a j) i j a x;
       on_refused =
@@ -131,11 +139,12 @@ holds_skip {pre = pre} {W = W} {read = read} {refused = refused} h =
 module _ {A B : Type 0} (pre : ℕ → Type 0) (look : ℕ → A) (part : A → Construct B) (read : B → ℕ → Type 0)
     (refused : Kind → ℕ → ℕ → Type 0) (h : (a : A) →
     HoareTriple (λ i. pre i × (look i ≡ a)) (part a) read refused) where
-  peek_read : (i j : ℕ) (b : B) → pre i → peek look part i (Read b j) → read b j
-  peek_read i j b p (chosen x) = (h (look i)).on_read i j b (p, refl) x
+  read_peek_meets_postcondition : (i j : ℕ) (b : B) → pre i → peek look part i (Read b j) → read b j
+  read_peek_meets_postcondition i j b p (chosen x) = (h (look i)).on_read i j b (p, refl) x
 
-  peek_refused : (i from to : ℕ) (k : Kind) → pre i → peek look part i (Refused k from to) → refused k from to
-  peek_refused i from to k p (chosen x) = (h (look i)).on_refused i from to k (p, refl) x
+  refused_peek_meets_postcondition : (i from to : ℕ) (k : Kind) → pre i → peek look part i (Refused k from to) →
+      refused k from to
+  refused_peek_meets_postcondition i from to k p (chosen x) = (h (look i)).on_refused i from to k (p, refl) x
 
 -- a part is read where it was chosen
 pub holds_peek :
@@ -145,8 +154,8 @@ pub holds_peek :
     HoareTriple pre (peek look part) read refused
 holds_peek {pre = pre} {look = look} {part = part} {read = read} {refused = refused} h =
     record {
-      on_read = peek_read pre look part read refused h;
-      on_refused = peek_refused pre look part read refused h;
+      on_read = read_peek_meets_postcondition pre look part read refused h;
+      on_refused = refused_peek_meets_postcondition pre look part read refused h;
     }
 
 module _ {A : Type 0} (pre : ℕ → Type 0) (test : Bool) (yes no : Construct A) (read : A → ℕ → Type 0)
@@ -177,16 +186,18 @@ module _ {A S B : Type 0} (next : S → Construct (More A S)) (add : A → B →
     (h : (s : S) → HoareTriple (pre s) (next s) after refused) (at_end : (i : ℕ) → after no_item i → read none i)
     (goes : (a : A) (s : S) (i : ℕ) → after (item a s) i → pre s i)
     (adds : (a : A) (s : S) (i j : ℕ) (b : B) → after (item a s) i → read b j → read (add a b) j) where
-  many_read : (s : S) (i j : ℕ) (b : B) → pre s i → many next add none s i (Read b j) → read b j
-  many_read s i j b p (list_ends x) = at_end j ((h s).on_read i j _ p x)
-  many_read s i j b p (item_and_more {later = r} {j = m} {a = a} x y) = let q = (h s).on_read i m _ p x in
-      adds a r m j _ q (many_read r m j _ (goes a r m q) y)
+  read_many_meets_postcondition : (s : S) (i j : ℕ) (b : B) → pre s i → many next add none s i (Read b j) → read b j
+  read_many_meets_postcondition s i j b p (list_ends x) = at_end j ((h s).on_read i j _ p x)
+  read_many_meets_postcondition s i j b p (item_and_more {later = r} {j = m} {a = a} x y) = let q =
+      (h s).on_read i m _ p x in
+      adds a r m j _ q (read_many_meets_postcondition r m j _ (goes a r m q) y)
 
-  many_refused : (s : S) (i from to : ℕ) (k : Kind) → pre s i → many next add none s i (Refused k from to) →
+  refused_many_meets_postcondition : (s : S) (i from to : ℕ) (k : Kind) → pre s i →
+      many next add none s i (Refused k from to) →
       refused k from to
-  many_refused s i from to k p (list_stops x) = (h s).on_refused i from to k p x
-  many_refused s i from to k p (stops_later {later = r} {j = m} {a = a} x y) =
-      many_refused r m from to k (goes a r m ((h s).on_read i m _ p x)) y
+  refused_many_meets_postcondition s i from to k p (list_stops x) = (h s).on_refused i from to k p x
+  refused_many_meets_postcondition s i from to k p (stops_later {later = r} {j = m} {a = a} x y) =
+      refused_many_meets_postcondition r m from to k (goes a r m ((h s).on_read i m _ p x)) y
 
 -- what holds after an item is where the next one begins, and an item is added to what holds of the rest
 pub holds_many :
@@ -199,6 +210,6 @@ pub holds_many :
 holds_many {next = next} {add = add} {none = none} {pre = pre} {after = after} {read = read} {refused = refused} {s = s}
     h e g a =
     record {
-      on_read = many_read next add none pre after read refused h e g a s;
-      on_refused = many_refused next add none pre after read refused h e g a s;
+      on_read = read_many_meets_postcondition next add none pre after read refused h e g a s;
+      on_refused = refused_many_meets_postcondition next add none pre after read refused h e g a s;
     }

@@ -19,17 +19,18 @@ use Rattle.fluent_syntax_grammar.specs.UniqueReading.{RuntimeJunkOfErrors}
 use Rattle.fluent_syntax_grammar.specs.UniqueReading.{ErrorsAscend, RuntimeErrorsAscend, BodyInText, RuntimeBodyInText}
 use Rattle.fluent_syntax_tree.specs.declared.edition.Edition.{Edition}
 use Rattle.fluent_syntax_tree.specs.declared.spans.Span.{Span}
-use Rattle.fluent_syntax_grammar.proofs.HoareTriple.{yields_value}
+use Rattle.fluent_syntax_grammar.proofs.HoareTriple.{yields_reads_its_value_in_place}
 use Rattle.fluent_syntax_grammar.proofs.Cuts.{AreBoundaries, block_goes_on}
 use Rattle.fluent_syntax_grammar.proofs.Sound.{IsSpan}
 use Rattle.fluent_syntax_grammar.proofs.SoundStrings.{InText}
-use Rattle.fluent_syntax_grammar.proofs.SoundTiling.{IsTileWellFormed, tile_good, whole_line_ends_inside}
+use Rattle.fluent_syntax_grammar.proofs.SoundTiling.{IsTileWellFormed, tile_at_place_is_ended_tile}
+use Rattle.fluent_syntax_grammar.proofs.SoundTiling.{whole_line_ends_inside}
 use Rattle.fluent_syntax_grammar.proofs.SoundTiling.{tiles_are_well_formed}
 use Rattle.fluent_syntax_grammar.proofs.SoundTiling.{runtime_tiles_are_well_formed}
-use Rattle.fluent_syntax_grammar.proofs.Boundaries.{text_cuts, char_boundaries_are_boundaries}
+use Rattle.fluent_syntax_grammar.proofs.Boundaries.{places_in_text_are_boundaries, char_boundaries_are_boundaries}
 use Rattle.fluent_syntax_grammar.proofs.BareEntries.{read_message_is_bare, read_term_is_bare}
 use Rattle.fluent_syntax_grammar.proofs.Runtime.{IsBare}
-use Rattle.fluent_syntax_grammar.proofs.Facts.{append_nothing, flat_map_of_append}
+use Rattle.fluent_syntax_grammar.proofs.Facts.{append_of_nothing_is_same, flat_map_of_append}
 
 -- ---- the texts of a body
 
@@ -45,21 +46,23 @@ module _ (P : ℕ → Type 0) where
   TileSpansInBounds (refused f) = IsSpan P f.slice
   TileSpansInBounds dropped = Unit {0}
 
-  good_attached : (content : List Span) (e : EntryTree Span) (o : Option (EntryTree Span)) → attached content e ≡ o →
+  spans_of_attached_are_in_bounds : (content : List Span) (e : EntryTree Span) (o : Option (EntryTree Span)) →
+      attached content e ≡ o →
       list_every (IsSpan P) content → EntrySpansInBounds e → (h : EntryTree Span) → o ≡ Some h → EntrySpansInBounds h
-  good_attached content (message m) o p c (a, b, d, f) h q =
+  spans_of_attached_are_in_bounds content (message m) o p c (a, b, d, f) h q =
       let same : message (record m { comment = Some content }) ≡ h = cc in subst EntrySpansInBounds same (a, b, d, c)
-  good_attached content (term m) o p c (a, b, d, f) h q = let same : term (record m { comment = Some content }) ≡ h =
+  spans_of_attached_are_in_bounds content (term m) o p c (a, b, d, f) h q =
+      let same : term (record m { comment = Some content }) ≡ h =
       cc in
       subst EntrySpansInBounds same (a, b, d, c)
-  good_attached content (comment level x) o p c g h q = cc
-  good_attached content (junk s) o p c g h q = cc
+  spans_of_attached_are_in_bounds content (comment level x) o p c g h q = cc
+  spans_of_attached_are_in_bounds content (junk s) o p c g h q = cc
 
   entry_attached_if_has_spans_in_bounds : (b : Bool) (content : List Span) (e h : EntryTree Span) →
       list_every (IsSpan P) content → EntrySpansInBounds e →
       (if b then attached content e else None) ≡ Some h → EntrySpansInBounds h
   entry_attached_if_has_spans_in_bounds true content e h c g p =
-      good_attached content e (attached content e) refl c g h p
+      spans_of_attached_are_in_bounds content e (attached content e) refl c g h p
   entry_attached_if_has_spans_in_bounds false content e h c g p = cc
 
   entry_of_tiles_has_spans_in_bounds : (x y : Tile) (h : EntryTree Span) → TileSpansInBounds x → TileSpansInBounds y →
@@ -147,12 +150,14 @@ module _ (edition : Edition) (t : List ℕ) where
       start < length t → TileAt edition t start end tile → Ascend t end (faults more) →
       Ascend t i (faults (tile ∷ more))
   faults_ascend_over_tile i start end tile more b p l (reads {e = e} x) a =
-      let q = tile_good edition t AllPlaces (text_cuts t) start end _ (omega arith) l (reads x) in
+      let q = tile_at_place_is_ended_tile edition t AllPlaces (places_in_text_are_boundaries t) start end _
+      (omega arith) l (reads x) in
       let on = q.onward in
       let blank = block_goes_on t i start b in
       faults_ascend_from_earlier_place i end (faults more) (omega arith) a
   faults_ascend_over_tile i start end tile more b p l (refuses x e) a =
-      let q = tile_good edition t AllPlaces (text_cuts t) start end _ (omega arith) l (refuses x e) in
+      let q = tile_at_place_is_ended_tile edition t AllPlaces (places_in_text_are_boundaries t) start end _
+      (omega arith) l (refuses x e) in
       let blank = block_goes_on t i start b in
       let g = q.good in
       (blank, g.0, g.2, g.3, a)
@@ -161,26 +166,31 @@ module _ (edition : Edition) (t : List ℕ) where
       Ascend t i (faults tiles)
   faults_of_tiles_ascend i tiles p (done b) = p
   faults_of_tiles_ascend i tiles p (next {start = start} {end = end} {tile = tile} {tiles = more} b l x m) =
-      let q = tile_good edition t AllPlaces (text_cuts t) start end tile (omega arith) l x in
+      let q = tile_at_place_is_ended_tile edition t AllPlaces (places_in_text_are_boundaries t) start end tile
+      (omega arith) l x in
       faults_ascend_over_tile i start end tile more b p l x (faults_of_tiles_ascend end more q.place m)
 
-  runtime_ascend : (i : ℕ) (tiles : List Tile) → AllPlaces i → Tiled t (RuntimeTileAt edition t) i tiles →
+  faults_of_runtime_tiling_ascend : (i : ℕ) (tiles : List Tile) → AllPlaces i →
+      Tiled t (RuntimeTileAt edition t) i tiles →
       Ascend t i (faults tiles)
-  runtime_ascend i tiles p (done b) = p
-  runtime_ascend i tiles p (next {start = start} {end = end} {tiles = more} b l (drops h x) m) =
-      let q = whole_line_ends_inside edition t AllPlaces (text_cuts t) start end (omega arith) x in
+  faults_of_runtime_tiling_ascend i tiles p (done b) = p
+  faults_of_runtime_tiling_ascend i tiles p (next {start = start} {end = end} {tiles = more} b l (drops h x) m) =
+      let q = whole_line_ends_inside edition t AllPlaces (places_in_text_are_boundaries t) start end (omega arith) x in
       let blank = block_goes_on t i start b in
       let on = q.late in
-      faults_ascend_from_earlier_place i end (faults more) (omega arith) (runtime_ascend end more q.place m)
-  runtime_ascend i tiles p (next {start = start} {end = end} {tile = tile} {tiles = more} b l (keeps_tile h x) m) =
-      let q = tile_good edition t AllPlaces (text_cuts t) start end tile (omega arith) l x in
-      faults_ascend_over_tile i start end tile more b p l x (runtime_ascend end more q.place m)
+      faults_ascend_from_earlier_place i end (faults more) (omega arith)
+      (faults_of_runtime_tiling_ascend end more q.place m)
+  faults_of_runtime_tiling_ascend i tiles p
+      (next {start = start} {end = end} {tile = tile} {tiles = more} b l (keeps_tile h x) m) =
+      let q = tile_at_place_is_ended_tile edition t AllPlaces (places_in_text_are_boundaries t) start end tile
+      (omega arith) l x in
+      faults_ascend_over_tile i start end tile more b p l x (faults_of_runtime_tiling_ascend end more q.place m)
 
   pub errors_of_text_ascend : ErrorsAscend edition t
   errors_of_text_ascend = λ tiles a. faults_of_tiles_ascend 0 tiles (omega arith) a
 
   pub runtime_errors_of_text_ascend : RuntimeErrorsAscend edition t
-  runtime_errors_of_text_ascend = λ tiles a. runtime_ascend 0 tiles (omega arith) a
+  runtime_errors_of_text_ascend = λ tiles a. faults_of_runtime_tiling_ascend 0 tiles (omega arith) a
 
 -- ---- junk
 
@@ -204,7 +214,7 @@ bare_is_not_junk (junk s) b = b
 module _ (edition : Edition) (t : List ℕ) where
   read_comment_is_no_junk : (i j : ℕ) (e : EntryTree Span) → comment_entry t i (Read e j) → IsNotJunk e
   read_comment_is_no_junk i j e (chosen (goes_on {a = c} x (goes_on {j = m} {a = more} y z))) =
-      subst IsNotJunk (yields_value (comment (level_of (hashes t i)) (c ++ more)) e m j z).0 tt
+      subst IsNotJunk (yields_reads_its_value_in_place (comment (level_of (hashes t i)) (c ++ more)) e m j z).0 tt
 
   read_entry_is_no_junk : (i j : ℕ) (e : EntryTree Span) (o : Option ℕ) →
       entry_of edition t (family edition t) o i (Read e j) → IsNotJunk e
@@ -247,7 +257,7 @@ non_junk_has_no_junk_slice (comment level content) b = refl
 non_junk_has_no_junk_slice (junk s) b = absurd b
 
 alone_keeps_junk : (x : Tile) → HoldsNoJunkEntry x → flat_map junk_slice (alone x) ≡ junk_of_tile x
-alone_keeps_junk (entry s e) b = append_nothing (junk_slice e) ∙ non_junk_has_no_junk_slice e b
+alone_keeps_junk (entry s e) b = append_of_nothing_is_same (junk_slice e) ∙ non_junk_has_no_junk_slice e b
 alone_keeps_junk (refused f) b = refl
 alone_keeps_junk dropped b = refl
 
@@ -302,7 +312,7 @@ joined_tiles_have_junk_of_tiles x y others after tiles (Some h) e b p q =
 junk_is_kept : (xs : List Tile) → list_every HoldsNoJunkEntry xs →
     flat_map junk_slice (body xs) ≡ flat_map junk_of_tile xs
 junk_is_kept [] b = refl
-junk_is_kept (x ∷ []) (b, c) = alone_keeps_junk x b ∙ sym (append_nothing (junk_of_tile x))
+junk_is_kept (x ∷ []) (b, c) = alone_keeps_junk x b ∙ sym (append_of_nothing_is_same (junk_of_tile x))
 junk_is_kept (x ∷ y ∷ tiles) (b, (c, d)) =
     joined_tiles_have_junk_of_tiles x y (body (y ∷ tiles)) (body tiles) tiles (attached_entry x y) refl b
     (junk_is_kept (y ∷ tiles) (c, d))

@@ -15,8 +15,9 @@ use Rattle.fluent_syntax_grammar.specs.Lanes.{RunOf}
 use Rattle.fluent_syntax_grammar.specs.Places.{holds, has}
 
 -- the lanes that are set before none is, of n
-abbrev pub lanes_before : (n mask : ℕ) → ℕ
-lanes_before n mask = cond (eqb mask 0) n (count_trailing_zeros 64 mask)
+abbrev pub lanes_before : (n lanes_give_mask_of_chunk : ℕ) → ℕ
+lanes_before n lanes_give_mask_of_chunk =
+    cond (eqb lanes_give_mask_of_chunk 0) n (count_trailing_zeros 64 lanes_give_mask_of_chunk)
 
 negation_false_is_true : (a b : Bool) → a ≡ not b → a ≡ false → b ≡ true
 negation_false_is_true a true e f = refl
@@ -33,15 +34,16 @@ module _ (test : ℕ → Bool) (t : List ℕ) (i n r : ℕ) (room : i + n ≤ le
   abbrev stops : ℕ → Bool
   stops x = top 7 (lane x)
 
-  mask : mask_l (map (top 7) lanes) % 2 ^ 64 ≡ mask_l (map stops (chunk i n t))
-  mask =
+  lanes_give_mask_of_chunk : mask_l (map (top 7) lanes) % 2 ^ 64 ≡ mask_l (map stops (chunk i n t))
+  lanes_give_mask_of_chunk =
       let v = chunk i n t in
       ap (λ z. mask_l z % 2 ^ 64) (ap (map (top 7)) are ∙ map-map (top 7) lane v)
       ∙ mask_l-mod (map stops v) 64 (omega (arith, length-map v stops, length-chunk i n t room))
 
   count_is_prefix_before_first_stop : r ≡ prefix_len (λ x. not (stops x)) (chunk i n t)
   count_is_prefix_before_first_stop =
-      found ∙ (ap (lanes_before n) mask ∙ first_set_mask_l stops (chunk i n t) n (length-chunk i n t room) few)
+      found ∙ (ap (lanes_before n) lanes_give_mask_of_chunk ∙
+      first_set_mask_l stops (chunk i n t) n (length-chunk i n t room) few)
 
   lane_stops_where_test_fails : (k : ℕ) → stops (get_or t k 0) ≡ not (test (get_or t k 0))
   lane_stops_where_test_fails k = agree_below_at stops (λ x. not (test x)) 256 (get_or t k 0) exact (fits k).fits
@@ -70,9 +72,10 @@ module _ (test : ℕ → Bool) (t : List ℕ) where
   test_of_byte_is_test_at_place k b within is = ap (holds test) (sym (slice_get-get_or t k 0 within)) ∙ is
 
   -- the bytes before the run, and those of the run, if it ends before its n bytes or the text does
-  pub run_after : (i n r : ℕ) → i + n ≤ length t → ((k : ℕ) → k < i → has t test k ≡ true) → RunOf test t i n r
+  pub run_after_prefix_is_prefix_length : (i n r : ℕ) → i + n ≤ length t → ((k : ℕ) → k < i → has t test k ≡ true) →
+      RunOf test t i n r
       → (i + r < length t → r < n) → i + r ≡ prefix_len test t
-  run_after i n r room before run ends =
+  run_after_prefix_is_prefix_length i n r room before run ends =
       sym (prefix_len_is test t (i + r) 0 (omega (arith, run.within))
       (λ k within. test_of_byte_is_test_at_place k true (omega (arith, run.within)) (elim (cases_lt k i) [
         | inl first ↦ before k first

@@ -198,16 +198,17 @@ elements_in_bounds : (P : ℕ → Type 0) (es : List (ElementTree Span)) → lis
 elements_in_bounds P [] g = tt
 elements_in_bounds P (e ∷ es) (g, h) = (g, elements_in_bounds P es h)
 
-if_any_in_bounds : (P : ℕ → Type 0) (es : List (ElementTree Span)) → list_every (element_every (IsSpan P)) es →
+optional_pattern_of_elements_is_in_bounds : (P : ℕ → Type 0) (es : List (ElementTree Span)) →
+    list_every (element_every (IsSpan P)) es →
     option_every (pattern_every (IsSpan P)) (if_any es)
-if_any_in_bounds P [] g = tt
-if_any_in_bounds P (e ∷ es) g = elements_in_bounds P (e ∷ es) g
+optional_pattern_of_elements_is_in_bounds P [] g = tt
+optional_pattern_of_elements_is_in_bounds P (e ∷ es) g = elements_in_bounds P (e ∷ es) g
 
 -- the texts of a pattern lie in the source, if its layout does
 pub pattern_in_bounds : (t : List ℕ) (P : ℕ → Type 0) → AreBoundaries t P → (edition : Edition) (y : Layout) →
     LayoutInBounds P y →
     option_every (pattern_every (IsSpan P)) (pattern_of edition t y)
 pattern_in_bounds t P cuts edition y g =
-    if_any_in_bounds P (spelled t (cut t (items edition y)))
+    optional_pattern_of_elements_is_in_bounds P (spelled t (cut t (items edition y)))
     (spelled_items_are_in_bounds t P cuts (cut t (items edition y))
     (cut_items_are_in_bounds t P cuts (items edition y) (items_of_layout_are_in_bounds P edition y g)))

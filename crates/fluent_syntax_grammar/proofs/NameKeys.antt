@@ -33,10 +33,11 @@ is_used-append name n (x ∷ xs) =
 
 module _ {K : Type 0} (text : K → List ℕ) where
   -- the table has the name where a key is the name
-  pub any_key : (name : List ℕ) (keys : List K) →
+  pub some_key_equals_name_if_is_key : (name : List ℕ) (keys : List K) →
       list_any (is_at (λ k. slice_cmp nat_cmp name (text k))) keys ≡ is_key text keys name
-  any_key name [] = refl
-  any_key name (k ∷ keys) = rw (is_eq-slice_cmp name (text k), any_key name keys) refl
+  some_key_equals_name_if_is_key name [] = refl
+  some_key_equals_name_if_is_key name (k ∷ keys) =
+      rw (is_eq-slice_cmp name (text k), some_key_equals_name_if_is_key name keys) refl
 
   module _ (cmp : K → K → Ordering) (same : (x y : K) → cmp x y ≡ Equal → text x ≡ text y) (name : List ℕ) (k : K) where
     by_order : (x : K) (keys : List K) (o : Ordering) → cmp k x ≡ o →

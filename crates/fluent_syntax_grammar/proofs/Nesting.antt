@@ -26,10 +26,11 @@ module _ (edition : Edition) (t : List ℕ) where
   next_depths_are_included m n h = next_is_included edition t (within edition t m) (within edition t n) h
 
   -- what nests no deeper than m, nests no deeper than a larger number
-  pub within_grows : (m n : ℕ) → m ≤ n → IsIncludedFamily (within edition t m) (within edition t n)
-  within_grows zero n l = depth_zero_is_included_in_any n
-  within_grows (suc m) zero l = absurd (omega arith)
-  within_grows (suc m) (suc n) l = next_depths_are_included m n (within_grows m n (omega arith))
+  pub deeper_family_includes_family : (m n : ℕ) → m ≤ n → IsIncludedFamily (within edition t m) (within edition t n)
+  deeper_family_includes_family zero n l = depth_zero_is_included_in_any n
+  deeper_family_includes_family (suc m) zero l = absurd (omega arith)
+  deeper_family_includes_family (suc m) (suc n) l =
+      next_depths_are_included m n (deeper_family_includes_family m n (omega arith))
 
   pub within_family : (n : ℕ) → IsIncludedFamily (within edition t n) (family edition t)
   unfolding family
@@ -42,9 +43,9 @@ module _ (edition : Edition) (t : List ℕ) where
   pub family_is_union_of_depths : IsUnionFamily (family edition t) (within edition t)
   unfolding family
   family_is_union_of_depths = record {
-    grows = within_grows;
-    expression = record { grows = λ m n l. (within_grows m n l).expression; found = λ i o x. x };
-    argument_list = record { grows = λ m n l. (within_grows m n l).argument_list; found = λ i o x. x };
+    grows = deeper_family_includes_family;
+    expression = record { grows = λ m n l. (deeper_family_includes_family m n l).expression; found = λ i o x. x };
+    argument_list = record { grows = λ m n l. (deeper_family_includes_family m n l).argument_list; found = λ i o x. x };
   }
 
   expression_at_depth_is_in_family : (n i : ℕ) (o : Outcome (ExpressionTree Span)) →
@@ -94,17 +95,18 @@ module _ (edition : Edition) (t : List ℕ) where
       (family edition t).expression i o → (family edition t).expression i p → o ≡ p
   unfolding family
   family_expression_outcome_is_unique i o p (m, x) (n, y) =
-      (within_is_functional (m + n)).expression.same i o p ((within_grows m (m + n) (omega arith)).expression.part i o
+      (within_is_functional (m + n)).expression.same i o p
+      ((deeper_family_includes_family m (m + n) (omega arith)).expression.part i o
       x)
-      ((within_grows n (m + n) (omega arith)).expression.part i p y)
+      ((deeper_family_includes_family n (m + n) (omega arith)).expression.part i p y)
 
   family_argument_list_outcome_is_unique : (i : ℕ) (o p : Outcome (ArgumentsTree Span)) →
       (family edition t).argument_list i o → (family edition t).argument_list i p → o ≡ p
   unfolding family
   family_argument_list_outcome_is_unique i o p (m, x) (n, y) =
       (within_is_functional (m + n)).argument_list.same i o p
-      ((within_grows m (m + n) (omega arith)).argument_list.part i o x)
-      ((within_grows n (m + n) (omega arith)).argument_list.part i p y)
+      ((deeper_family_includes_family m (m + n) (omega arith)).argument_list.part i o x)
+      ((deeper_family_includes_family n (m + n) (omega arith)).argument_list.part i p y)
 
   -- the constructs that nest have at most one outcome at a place
   pub family_is_functional : IsFunctionalFamily (family edition t)

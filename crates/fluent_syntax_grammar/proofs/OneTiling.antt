@@ -10,7 +10,7 @@ use Rattle.fluent_syntax_grammar.specs.Tiling.{Tile, failing_place, JunkEnd, who
 use Rattle.fluent_syntax_grammar.specs.Tiling.{reads, refuses, RuntimeTileAt, drops, keeps_tile, Tiling, RuntimeTiling}
 use Rattle.fluent_syntax_tree.specs.declared.edition.Edition.{Edition}
 use Rattle.fluent_syntax_grammar.specs.UniqueReading.{IsFunctional}
-use Rattle.fluent_syntax_grammar.proofs.Functional.{functional, single_block}
+use Rattle.fluent_syntax_grammar.proofs.Functional.{functional, blank_block_ends_at_one_place}
 use Rattle.fluent_syntax_grammar.proofs.FunctionalWords.{rest_of_line_is_functional, optional_eol_is_functional}
 use Rattle.fluent_syntax_grammar.proofs.FunctionalEntries.{entry_in_is_functional}
 
@@ -35,11 +35,13 @@ pub record IsOneTile (at : (i j : ℕ) → Tile → Type 0) : Type 0 where
 pub tiled_is_unique : (t : List ℕ) (at : (i j : ℕ) → Tile → Type 0) → IsOneTile at → (i : ℕ) (xs ys : List Tile) →
     Tiled t at i xs → Tiled t at i ys → xs ≡ ys
 tiled_is_unique t at one i xs ys (done a) (done b) = refl
-tiled_is_unique t at one i xs ys (done a) (next b l c d) = let h = single_block.same i _ _ a b in absurd (omega arith)
-tiled_is_unique t at one i xs ys (next a l b c) (done d) = let h = single_block.same i _ _ a d in absurd (omega arith)
+tiled_is_unique t at one i xs ys (done a) (next b l c d) = let h = blank_block_ends_at_one_place.same i _ _ a b in
+    absurd (omega arith)
+tiled_is_unique t at one i xs ys (next a l b c) (done d) = let h = blank_block_ends_at_one_place.same i _ _ a d in
+    absurd (omega arith)
 tiled_is_unique t at one i xs ys (next {start = start} {end = j} {tile = x} {tiles = more} a l b c)
     (next {start = start'} {end = k} {tile = y} {tiles = others} d m e f) =
-    let same_start : start ≡ start' = single_block.same i _ _ a d in
+    let same_start : start ≡ start' = blank_block_ends_at_one_place.same i _ _ a d in
     let e' = subst (λ s. at s k y) (sym same_start) e in
     let same_end : j ≡ k = one.same_end start j k x y b e' in
     let same_tile : x ≡ y = one.same_tile start j k x y b e' in
@@ -101,8 +103,8 @@ module _ (edition : Edition) (t : List ℕ) where
   runtime_tile_of_text_is_one = one_runtime_tile_in edition t (family edition t) (family_is_functional edition t)
 
   -- a text has at most one tiling
-  pub same_tilings : (xs ys : List Tile) → Tiling edition t xs → Tiling edition t ys → xs ≡ ys
-  same_tilings xs ys a b = tiled_is_unique t (TileAt edition t) tile_of_text_is_one 0 xs ys a b
+  pub tilings_of_text_are_same : (xs ys : List Tile) → Tiling edition t xs → Tiling edition t ys → xs ≡ ys
+  tilings_of_text_are_same xs ys a b = tiled_is_unique t (TileAt edition t) tile_of_text_is_one 0 xs ys a b
 
   -- a text has at most one tiling without comments
   pub runtime_tilings_of_text_are_equal : (xs ys : List Tile) → RuntimeTiling edition t xs →

@@ -24,10 +24,12 @@ and_swaps_inner false b c d = refl
 
 module _ {K : Type 0} where
   -- each passes two tests exactly where each passes the one, and each the other
-  pub both_pass : (a b : K → Bool) (ks : List K) → list_all (λ k. a k && b k) ks ≡ (list_all a ks && list_all b ks)
-  both_pass a b [] = refl
-  both_pass a b (k ∷ ks) =
-      ap (λ rest. (a k && b k) && rest) (both_pass a b ks) ∙ and_swaps_inner (a k) (b k) (list_all a ks) (list_all b ks)
+  pub all_of_both_is_both_of_all : (a b : K → Bool) (ks : List K) →
+      list_all (λ k. a k && b k) ks ≡ (list_all a ks && list_all b ks)
+  all_of_both_is_both_of_all a b [] = refl
+  all_of_both_is_both_of_all a b (k ∷ ks) =
+      ap (λ rest. (a k && b k) && rest) (all_of_both_is_both_of_all a b ks) ∙
+      and_swaps_inner (a k) (b k) (list_all a ks) (list_all b ks)
 
   pub true_holds_of_all_parts : (ks : List K) → true ≡ list_all (λ (k : K). true) ks
   true_holds_of_all_parts [] = refl
@@ -48,9 +50,9 @@ module _ {K : Type 0} (ks : List K) (parts : K → Rules) (whole : Rules) where
     pub number_parts : (v : Text) → whole.number v ≡ list_all (λ k. (parts k).number v) ks
     pub name_parts : (v : Text) → whole.name v ≡ list_all (λ k. (parts k).name v) ks
 
-  meet : {x y : Bool} (a b : K → Bool) → x ≡ list_all a ks → y ≡ list_all b ks
+  conjunction_of_all : {x y : Bool} (a b : K → Bool) → x ≡ list_all a ks → y ≡ list_all b ks
       → (x && y) ≡ list_all (λ k. a k && b k) ks
-  meet a b e f = rw (e, f) (sym (both_pass a b ks))
+  conjunction_of_all a b e f = rw (e, f) (sym (all_of_both_is_both_of_all a b ks))
 
   option_test_is_all_of_parts : {X : Type 0} (test : X → Bool) (part : K → X → Bool)
       → ((x : X) → test x ≡ list_all (λ k. part k x) ks)
@@ -62,7 +64,8 @@ module _ {K : Type 0} (ks : List K) (parts : K → Rules) (whole : Rules) where
       → ((x : X) → test x ≡ list_all (λ k. part k x) ks)
       → (xs : List X) → list_all test xs ≡ list_all (λ k. list_all (part k) xs) ks
   list_test_is_all_of_parts test part e [] = true_holds_of_all_parts ks
-  list_test_is_all_of_parts test part e (x ∷ xs) = meet _ _ (e x) (list_test_is_all_of_parts test part e xs)
+  list_test_is_all_of_parts test part e (x ∷ xs) =
+      conjunction_of_all _ _ (e x) (list_test_is_all_of_parts test part e xs)
 
   module _ (are : ArePartsOf) where
     optional_name_test_is_all_of_parts : (o : Option Text)
@@ -77,18 +80,21 @@ module _ {K : Type 0} (ks : List K) (parts : K → Rules) (whole : Rules) where
       expression_obeys_each : (e : ExpressionTree Text)
           → expression_obeys whole e ≡ list_all (λ k. expression_obeys (parts k) e) ks
       expression_obeys_each (select e vs) =
-          meet _ _ (are.expression_parts (select e vs)) (meet _ _ (inline_obeys_each e) (variants_obey_each vs))
-      expression_obeys_each (inline e) = meet _ _ (are.expression_parts (inline e)) (inline_obeys_each e)
+          conjunction_of_all _ _ (are.expression_parts (select e vs))
+          (conjunction_of_all _ _ (inline_obeys_each e) (variants_obey_each vs))
+      expression_obeys_each (inline e) = conjunction_of_all _ _ (are.expression_parts (inline e)) (inline_obeys_each e)
 
       inline_obeys_each : (e : InlineTree Text) → inline_obeys whole e ≡ list_all (λ k. inline_obeys (parts k) e) ks
       inline_obeys_each (string_literal v) = are.string_parts v
       inline_obeys_each (number_literal v) = are.number_parts v
       inline_obeys_each (function_reference id a) =
-          meet _ _ (are.name_parts id) (meet _ _ (are.callee_parts id) (arguments_obey_each a))
+          conjunction_of_all _ _ (are.name_parts id)
+          (conjunction_of_all _ _ (are.callee_parts id) (arguments_obey_each a))
       inline_obeys_each (message_reference id attribute) =
-          meet _ _ (are.name_parts id) (optional_name_test_is_all_of_parts attribute)
+          conjunction_of_all _ _ (are.name_parts id) (optional_name_test_is_all_of_parts attribute)
       inline_obeys_each (term_reference id attribute a) =
-          meet _ _ (are.name_parts id) (meet _ _ (optional_name_test_is_all_of_parts attribute) (maybe_obeys_each a))
+          conjunction_of_all _ _ (are.name_parts id)
+          (conjunction_of_all _ _ (optional_name_test_is_all_of_parts attribute) (maybe_obeys_each a))
       inline_obeys_each (variable_reference id) = are.name_parts id
       inline_obeys_each (inline_placeable e) = expression_obeys_each e
 
@@ -100,29 +106,31 @@ module _ {K : Type 0} (ks : List K) (parts : K → Rules) (whole : Rules) where
       arguments_obey_each : (a : ArgumentsTree Text)
           → arguments_obey whole a ≡ list_all (λ k. arguments_obey (parts k) a) ks
       arguments_obey_each (arguments ps ns) =
-          meet _ _ (are.arguments_parts (arguments ps ns)) (meet _ _ (inlines_obey_each ps) (nameds_obey_each ns))
+          conjunction_of_all _ _ (are.arguments_parts (arguments ps ns))
+          (conjunction_of_all _ _ (inlines_obey_each ps) (nameds_obey_each ns))
 
       inlines_obey_each : (es : InlineTrees Text) → inlines_obey whole es ≡ list_all (λ k. inlines_obey (parts k) es) ks
       inlines_obey_each no_inlines = true_holds_of_all_parts ks
-      inlines_obey_each (inlines e es) = meet _ _ (inline_obeys_each e) (inlines_obey_each es)
+      inlines_obey_each (inlines e es) = conjunction_of_all _ _ (inline_obeys_each e) (inlines_obey_each es)
 
       nameds_obey_each : (ns : NamedTrees Text) → named_arguments_obey whole ns
           ≡ list_all (λ k. named_arguments_obey (parts k) ns) ks
       nameds_obey_each no_named = true_holds_of_all_parts ks
-      nameds_obey_each (nameds n ns) = meet _ _ (named_obeys_each n) (nameds_obey_each ns)
+      nameds_obey_each (nameds n ns) = conjunction_of_all _ _ (named_obeys_each n) (nameds_obey_each ns)
 
       named_obeys_each : (n : NamedTree Text) → named_obeys whole n ≡ list_all (λ k. named_obeys (parts k) n) ks
-      named_obeys_each (named_argument name e) = meet _ _ (are.name_parts name) (inline_obeys_each e)
+      named_obeys_each (named_argument name e) = conjunction_of_all _ _ (are.name_parts name) (inline_obeys_each e)
 
       pattern_obeys_each : (p : PatternTree Text) → pattern_obeys whole p ≡ list_all (λ k. pattern_obeys (parts k) p) ks
       pattern_obeys_each no_elements = are.pattern_parts no_elements
       pattern_obeys_each (elements e es) =
-          meet _ _ (are.pattern_parts (elements e es)) (meet _ _ (element_obeys_each e) (elements_obey_each es))
+          conjunction_of_all _ _ (are.pattern_parts (elements e es))
+          (conjunction_of_all _ _ (element_obeys_each e) (elements_obey_each es))
 
       elements_obey_each : (es : PatternTree Text) →
           elements_obey whole es ≡ list_all (λ k. elements_obey (parts k) es) ks
       elements_obey_each no_elements = true_holds_of_all_parts ks
-      elements_obey_each (elements e es) = meet _ _ (element_obeys_each e) (elements_obey_each es)
+      elements_obey_each (elements e es) = conjunction_of_all _ _ (element_obeys_each e) (elements_obey_each es)
 
       element_obeys_each : (e : ElementTree Text) → element_obeys whole e ≡ list_all (λ k. element_obeys (parts k) e) ks
       element_obeys_each (text_element v) = true_holds_of_all_parts ks
@@ -131,14 +139,15 @@ module _ {K : Type 0} (ks : List K) (parts : K → Rules) (whole : Rules) where
       variants_obey_each : (vs : VariantTrees Text)
           → variants_obey whole vs ≡ list_all (λ k. variants_obey (parts k) vs) ks
       variants_obey_each no_variants = true_holds_of_all_parts ks
-      variants_obey_each (variants v vs) = meet _ _ (variant_obeys_each v) (variants_obey_each vs)
+      variants_obey_each (variants v vs) = conjunction_of_all _ _ (variant_obeys_each v) (variants_obey_each vs)
 
       variant_obeys_each : (v : VariantTree Text) → variant_obeys whole v ≡ list_all (λ k. variant_obeys (parts k) v) ks
-      variant_obeys_each (variant key value default) = meet _ _ (key_obeys_each key) (pattern_obeys_each value)
+      variant_obeys_each (variant key value default) =
+          conjunction_of_all _ _ (key_obeys_each key) (pattern_obeys_each value)
 
     attribute_obeys_each : (a : AttributeTree Text)
         → attribute_obeys whole a ≡ list_all (λ k. attribute_obeys (parts k) a) ks
-    attribute_obeys_each a = meet _ _ (are.name_parts a.id) (pattern_obeys_each a.value)
+    attribute_obeys_each a = conjunction_of_all _ _ (are.name_parts a.id) (pattern_obeys_each a.value)
 
     attributes_obey_each : (more : List (AttributeTree Text))
         → list_all (attribute_obeys whole) more ≡ list_all (λ k. list_all (attribute_obeys (parts k)) more) ks
@@ -157,12 +166,14 @@ module _ {K : Type 0} (ks : List K) (parts : K → Rules) (whole : Rules) where
 
     pub entry_obeys_each : (e : EntryTree Text) → entry_obeys whole e ≡ list_all (λ k. entry_obeys (parts k) e) ks
     entry_obeys_each (message m) =
-        meet _ _ (are.message_parts m)
-        (meet _ _ (comment_obeys_each m.comment)
-        (meet _ _ (are.name_parts m.id) (meet _ _ (value_obeys_each m.value) (attributes_obey_each m.attributes))))
+        conjunction_of_all _ _ (are.message_parts m)
+        (conjunction_of_all _ _ (comment_obeys_each m.comment)
+        (conjunction_of_all _ _ (are.name_parts m.id)
+        (conjunction_of_all _ _ (value_obeys_each m.value) (attributes_obey_each m.attributes))))
     entry_obeys_each (term m) =
-        meet _ _ (comment_obeys_each m.comment)
-        (meet _ _ (are.name_parts m.id) (meet _ _ (pattern_obeys_each m.value) (attributes_obey_each m.attributes)))
+        conjunction_of_all _ _ (comment_obeys_each m.comment)
+        (conjunction_of_all _ _ (are.name_parts m.id)
+        (conjunction_of_all _ _ (pattern_obeys_each m.value) (attributes_obey_each m.attributes)))
     entry_obeys_each (comment level content) = are.comment_parts content
     entry_obeys_each (junk content) = are.junk_parts
 

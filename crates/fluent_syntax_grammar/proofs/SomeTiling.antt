@@ -12,8 +12,8 @@ use Rattle.fluent_syntax_tree.specs.declared.edition.Edition.{Edition}
 use Rattle.fluent_syntax_tree.specs.declared.spans.Span.{Span}
 use Rattle.fluent_syntax_grammar.proofs.Cuts.{block_goes_on, line_place_is_inside_text}
 use Rattle.fluent_syntax_grammar.proofs.SoundStrings.{InText}
-use Rattle.fluent_syntax_grammar.proofs.SoundTiling.{refused_entry_has_entry_fault, tile_good}
-use Rattle.fluent_syntax_grammar.proofs.Boundaries.{text_cuts}
+use Rattle.fluent_syntax_grammar.proofs.SoundTiling.{refused_entry_has_entry_fault, tile_at_place_is_ended_tile}
+use Rattle.fluent_syntax_grammar.proofs.Boundaries.{places_in_text_are_boundaries}
 use Rattle.fluent_syntax_grammar.proofs.WholeLines.{IsLine, line_reads_as_whole_line, line_ends_in_text}
 use Rattle.fluent_syntax_grammar.proofs.WholeLines.{hashes_end_within_line}
 use Rattle.fluent_syntax_grammar.proofs.CommentFaults.{hashes_at_hash_are_at_least_one}
@@ -44,8 +44,9 @@ module _ (t : List ℕ) where
   line_exists_by_its_eol i k s None e = (k, record { end = k; stretch = s; eol = inr (e, refl) })
   line_exists_by_its_eol i k s (Some j) e = (j, record { end = k; stretch = s; eol = inl e })
 
-  line_exists : (i : ℕ) → i ≤ length t → (j : ℕ) × IsLine t i j
-  line_exists i l = let w = (longest_run_is_total t (is_line_place t) (line_place_is_inside_text t)).exists i l in
+  line_from_place_exists : (i : ℕ) → i ≤ length t → (j : ℕ) × IsLine t i j
+  line_from_place_exists i l = let w =
+      (longest_run_is_total t (is_line_place t) (line_place_is_inside_text t)).exists i l in
       line_exists_by_its_eol i w.0 w.1 (after_eol t w.0) refl
 
 module _ (edition : Edition) (t : List ℕ) where
@@ -63,7 +64,8 @@ module _ (edition : Edition) (t : List ℕ) where
   tile_exists_by_outcome_of_entry : (i : ℕ) → i < length t → (o : Outcome (EntryTree Span)) → entry_at edition t i o →
       TileThere i
   tile_exists_by_outcome_of_entry i l (Read e j) x =
-      let q = tile_good edition t (InText t) (text_cuts t) i j _ (omega arith) l (reads x) in
+      let q = tile_at_place_is_ended_tile edition t (InText t) (places_in_text_are_boundaries t) i j _ (omega arith) l
+      (reads x) in
       record {
         tile = entry (record { start = i; end = j }) e;
         end = j;
@@ -72,9 +74,11 @@ module _ (edition : Edition) (t : List ℕ) where
         in_text = q.place;
       }
   tile_exists_by_outcome_of_entry i l (Refused k from to) x =
-      let f = refused_entry_has_entry_fault edition t (InText t) (text_cuts t) i from to k (omega arith) x in
+      let f = refused_entry_has_entry_fault edition t (InText t) (places_in_text_are_boundaries t) i from to k
+      (omega arith) x in
       let e = junk_end_exists t (length t) (failing_place k from to) (omega arith) f.in_text in
-      let q = tile_good edition t (InText t) (text_cuts t) i e.0 _ (omega arith) l (refuses x e.1) in
+      let q = tile_at_place_is_ended_tile edition t (InText t) (places_in_text_are_boundaries t) i e.0 _ (omega arith) l
+      (refuses x e.1) in
       record { tile = _; end = e.0; tile_there = refuses x e.1; on = q.onward; in_text = q.place }
 
   tile_exists : (i : ℕ) → i < length t → TileThere i
@@ -94,7 +98,7 @@ module _ (edition : Edition) (t : List ℕ) where
   runtime_tile_exists_by_hash_test : (i : ℕ) → i < length t → (hash : Bool) → has_byte t 35 i ≡ hash →
       RuntimeTileThere i
   runtime_tile_exists_by_hash_test i l true h =
-      let x = line_exists t i (omega arith) in
+      let x = line_from_place_exists t i (omega arith) in
       let one = hashes_at_hash_are_at_least_one t i h in
       let on = hashes_end_within_line t i x.0 x.1 in
       record {
@@ -153,8 +157,8 @@ module _ (edition : Edition) (t : List ℕ) where
   some_runtime_tiles_cover_rest_of_text i inside = runtime_tiles_exist (length t) i (omega arith) inside
 
   -- every text has a tiling
-  pub some_tiling : SomeTiling edition t
-  some_tiling = some_tiles_cover_rest_of_text 0 (omega arith)
+  pub text_has_tiling : SomeTiling edition t
+  text_has_tiling = some_tiles_cover_rest_of_text 0 (omega arith)
 
   -- every text has a tiling without comments
   pub some_runtime_tiling : SomeRuntimeTiling edition t

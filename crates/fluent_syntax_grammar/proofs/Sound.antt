@@ -11,11 +11,12 @@ use Rattle.fluent_syntax_grammar.specs.Tokens.{spanned, inline_blank, blank, bla
 use Rattle.fluent_syntax_grammar.specs.Tokens.{rest_of_line}
 use Rattle.fluent_syntax_grammar.specs.Meaning.{kind_means}
 use Rattle.fluent_syntax_tree.specs.declared.spans.Span.{Span}
-use Rattle.fluent_syntax_grammar.proofs.HoareTriple.{HoareTriple, holds_weaker, holds_bind, holds_yields, holds_fails}
+use Rattle.fluent_syntax_grammar.proofs.HoareTriple.{HoareTriple, holds_weaker, holds_bind, yields_meets_triple}
+use Rattle.fluent_syntax_grammar.proofs.HoareTriple.{fails_meets_triple}
 use Rattle.fluent_syntax_grammar.proofs.HoareTriple.{holds_skip, holds_peek, holds_branch_on, holds_many}
 use Rattle.fluent_syntax_grammar.proofs.Cuts.{AreBoundaries, IsAsciiSet, space_is_ascii_set, byte_run_ends_at_boundary}
 use Rattle.fluent_syntax_grammar.proofs.Cuts.{blank_ends_at_boundary}
-use Rattle.fluent_syntax_grammar.proofs.Cuts.{block_place, block_goes_on, eol_goes_on, eol_ends_at_boundary}
+use Rattle.fluent_syntax_grammar.proofs.Cuts.{end_of_block_is_place, block_goes_on, eol_goes_on, eol_ends_at_boundary}
 use Rattle.fluent_syntax_grammar.proofs.Cuts.{line_run_ends_at_boundary, text_run_ends_at_boundary}
 
 -- an ordered range between two places of the kind
@@ -82,9 +83,9 @@ refused_part_after_here_has_fault t P s Good f g i from to k p (goes_on at_place
     ((g i p).holds.on_refused i from to k (record { late = omega arith; place = p.place }) y)
 
 module _ {t : List ℕ} {P : ℕ → Type 0} {s : ℕ} where
-  pub known : {A B : Type 0} {Mid : A → Type 0} {Good : B → Type 0} {a : A} {c : Construct B} →
+  pub part_is_sound_after_good_value : {A B : Type 0} {Mid : A → Type 0} {Good : B → Type 0} {a : A} {c : Construct B} →
       (Mid a → Sound t P s c Good) → HoareTriple (Ended P s Mid a) c (Ended P s Good) (IsFault t s)
-  known f = record {
+  part_is_sound_after_good_value f = record {
     on_read = λ i j b p x. (f p.good).holds.on_read i j b (record { late = p.late; place = p.place }) x;
     on_refused =
         λ i from to k p x. (f p.good).holds.on_refused i from to k (record { late = p.late; place = p.place }) x;
@@ -92,17 +93,19 @@ module _ {t : List ℕ} {P : ℕ → Type 0} {s : ℕ} where
 
   pub bind_is_sound : {A B : Type 0} {Mid : A → Type 0} {Good : B → Type 0} {c : Construct A} {f : A → Construct B} →
       Sound t P s c Mid → ((a : A) → Mid a → Sound t P s (f a) Good) → Sound t P s (c >>= f) Good
-  bind_is_sound {Mid = Mid} x g = record { holds = holds_bind x.holds (λ a. known {Mid = Mid} (g a)) }
+  bind_is_sound {Mid = Mid} x g =
+      record { holds = holds_bind x.holds (λ a. part_is_sound_after_good_value {Mid = Mid} (g a)) }
 
   pub yields_is_sound : {A : Type 0} {Good : A → Type 0} {a : A} → Good a → Sound t P s (yields a) Good
-  yields_is_sound g = record { holds = holds_yields (λ i p. record { late = p.late; place = p.place; good = g }) }
+  yields_is_sound g =
+      record { holds = yields_meets_triple (λ i p. record { late = p.late; place = p.place; good = g }) }
 
   pub fails_is_sound : {A : Type 0} {Good : A → Type 0} {k : Kind} → ((i : ℕ) → P i → i ≤ length t) → IsPlain k →
       ((i : ℕ) → kind_means t k i) → Sound t P s (fails k) Good
   fails_is_sound inside plain m =
       record {
         holds =
-            holds_fails (λ i p.
+            fails_meets_triple (λ i p.
             record { late = p.late; in_text = inside i p.place; one = refl; plain = plain; means = m i });
       }
 
@@ -165,7 +168,8 @@ module _ (t : List ℕ) (P : ℕ → Type 0) (cuts : AreBoundaries t P) where
   blank_is_onward = record { forward = λ i j w. w.forward; place = λ i j p w. blank_ends_at_boundary t P cuts i j p w }
 
   pub block_is_onward : IsOnward P (BlankBlock t)
-  block_is_onward = record { forward = λ i j w. block_goes_on t i j w; place = λ i j p w. block_place t P cuts i j p w }
+  block_is_onward =
+      record { forward = λ i j w. block_goes_on t i j w; place = λ i j p w. end_of_block_is_place t P cuts i j p w }
 
   pub line_is_onward : IsOnward P (LongestRun (is_line_place t))
   line_is_onward =
@@ -190,7 +194,7 @@ module _ (t : List ℕ) (P : ℕ → Type 0) (cuts : AreBoundaries t P) where
   past_eol_reads_soundly : (s : ℕ) (o : Option ℕ) →
       HoareTriple (λ i. Inside P s i × (after_eol t i ≡ o)) (past_eol o) (Ended P s (λ u. Unit {0})) (IsFault t s)
   past_eol_reads_soundly s None =
-      holds_yields (λ i p. let q = p.0 in record { late = q.late; place = q.place; good = tt })
+      yields_meets_triple (λ i p. let q = p.0 in record { late = q.late; place = q.place; good = tt })
   past_eol_reads_soundly s (Some k) =
       holds_skip (λ i j p w. let q = p.0 in let l = q.late in let f = eol_goes_on t i k p.1 in let e = w.there in
       record { late = omega arith; place = subst P (sym e) (eol_ends_at_boundary t P cuts i k p.1); good = tt })

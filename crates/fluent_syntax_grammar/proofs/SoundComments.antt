@@ -10,14 +10,16 @@ use Rattle.fluent_syntax_grammar.specs.Comments.{hashes, comment_text, comment_r
 use Rattle.fluent_syntax_grammar.specs.Comments.{other_level, no_comment_line, one_more, comment_of, comment_entry}
 use Rattle.fluent_syntax_tree.specs.declared.spans.Span.{Span}
 use Rattle.fluent_syntax_grammar.proofs.HoareTriple.{HoareTriple, holds_bind, holds_skip}
-use Rattle.fluent_syntax_grammar.proofs.Cuts.{AreBoundaries, ascii_byte}
+use Rattle.fluent_syntax_grammar.proofs.Cuts.{AreBoundaries, byte_below_128_is_ascii}
 use Rattle.fluent_syntax_grammar.proofs.Sound.{IsSpan, Inside, Ended, IsFault, Sound, bind_is_sound, yields_is_sound}
-use Rattle.fluent_syntax_grammar.proofs.Sound.{peek_is_sound, here_is_sound, spanned_is_sound, known}
+use Rattle.fluent_syntax_grammar.proofs.Sound.{peek_is_sound, here_is_sound, spanned_is_sound}
+use Rattle.fluent_syntax_grammar.proofs.Sound.{part_is_sound_after_good_value}
 use Rattle.fluent_syntax_grammar.proofs.Sound.{rest_of_line_is_sound, optional_eol_is_sound}
 use Rattle.fluent_syntax_grammar.proofs.SoundWords.{token_is_sound}
 use Rattle.fluent_syntax_tree.proofs.Every.{list_every-append}
 use Rattle.fluent_syntax_grammar.proofs.CommentFaults.{hashes_at_hash_are_at_least_one}
-use Rattle.fluent_syntax_grammar.proofs.SoundEntries.{IsEntryFault, fault_is_entry_fault, earlier_fault}
+use Rattle.fluent_syntax_grammar.proofs.SoundEntries.{IsEntryFault, fault_is_entry_fault}
+use Rattle.fluent_syntax_grammar.proofs.SoundEntries.{entry_fault_is_fault_from_earlier}
 
 hashes_place_holds : (P : ℕ → Type 0) (i : ℕ) (a b c : Bool) → P i → (a ≡ true → P (i + 1)) → (b ≡ true → P (i + 2)) →
     (c ≡ true → P (i + 3)) →
@@ -33,11 +35,12 @@ offset_plus_one_is_next_offset i m n e = omega arith
 module _ (t : List ℕ) (P : ℕ → Type 0) (cuts : AreBoundaries t P) where
   boundary_is_after_hash : (i m n : ℕ) → m + 1 ≡ n → has_byte t 35 (i + m) ≡ true → P (i + n)
   boundary_is_after_hash i m n e h =
-      subst P (offset_plus_one_is_next_offset i m n e) (cuts.after (i + m) (ascii_byte t 35 (i + m) (omega arith) h))
+      subst P (offset_plus_one_is_next_offset i m n e)
+      (cuts.after (i + m) (byte_below_128_is_ascii t 35 (i + m) (omega arith) h))
 
   pub place_after_hashes : (i : ℕ) → P i → P (i + hashes t i)
   place_after_hashes i p = hashes_place_holds P i (has_byte t 35 i) (has_byte t 35 (i + 1)) (has_byte t 35 (i + 2)) p
-      (λ e. cuts.after i (ascii_byte t 35 i (omega arith) e)) (λ e. boundary_is_after_hash i 1 2 refl e)
+      (λ e. cuts.after i (byte_below_128_is_ascii t 35 i (omega arith) e)) (λ e. boundary_is_after_hash i 1 2 refl e)
       (λ e. boundary_is_after_hash i 2 3 refl e)
 
   comment_text_is_sound : {s : ℕ} (eol : Bool) → Sound t P s (comment_text t eol) (IsSpan P)
@@ -58,14 +61,16 @@ module _ (t : List ℕ) (P : ℕ → Type 0) (cuts : AreBoundaries t P) where
       record { late = omega arith; place = subst P same (place_after_hashes i p) }))
       (λ u. (peek_is_sound comment_rest_is_sound).holds)
 
-  lines_read : (s level i j : ℕ) (rest : List Span) → Inside P s i → comment_lines t level i (Read rest j) →
+  comment_lines_end_with_spans : (s level i j : ℕ) (rest : List Span) → Inside P s i →
+      comment_lines t level i (Read rest j) →
       Ended P s (list_every (IsSpan P)) rest j
-  lines_read s level i j rest p (other_level x) = record { late = p.late; place = p.place; good = tt }
-  lines_read s level i j rest p (no_comment_line e x) = record { late = p.late; place = p.place; good = tt }
-  lines_read s level i j rest p (one_more {j = m} {content = content} {rest = more} e x y) =
+  comment_lines_end_with_spans s level i j rest p (other_level x) = record { late = p.late; place = p.place; good = tt }
+  comment_lines_end_with_spans s level i j rest p (no_comment_line e x) =
+      record { late = p.late; place = p.place; good = tt }
+  comment_lines_end_with_spans s level i j rest p (one_more {j = m} {content = content} {rest = more} e x y) =
       let late = p.late in
       let q = (comment_line_reads_soundly s i level (omega arith) p.place e).on_read i m content refl x in
-      let r = lines_read s level m j more (record { late = q.late; place = q.place }) y in
+      let r = comment_lines_end_with_spans s level m j more (record { late = q.late; place = q.place }) y in
       record { late = r.late; place = r.place; good = list_every-append (IsSpan P) content more q.good r.good }
 
   comment_lines_refuse_nothing : (X : Type 0) (level i from to : ℕ) (k : Kind) →
@@ -77,7 +82,7 @@ module _ (t : List ℕ) (P : ℕ → Type 0) (cuts : AreBoundaries t P) where
       record {
         holds =
             record {
-              on_read = λ i j a p x. lines_read s level i j a p x;
+              on_read = λ i j a p x. comment_lines_end_with_spans s level i j a p x;
               on_refused = λ i from to k p x. comment_lines_refuse_nothing (IsFault t s k from to) level i from to k x;
             };
       }
@@ -87,7 +92,7 @@ module _ (t : List ℕ) (P : ℕ → Type 0) (cuts : AreBoundaries t P) where
       (IsFault t (i + level))
   comment_of_level_reads_soundly i level p e =
       holds_bind (comment_line_reads_soundly (i + level) i level (omega arith) p e) (λ content.
-      known {Mid = list_every (IsSpan P)}
+      part_is_sound_after_good_value {Mid = list_every (IsSpan P)}
       (λ g. bind_is_sound (comment_lines_are_sound level) (λ rest k. yields_is_sound
       (list_every-append (IsSpan P) content rest g k))))
 
@@ -103,6 +108,6 @@ module _ (t : List ℕ) (P : ℕ → Type 0) (cuts : AreBoundaries t P) where
       comment_entry t i (Refused k from to) → IsEntryFault t i (i + 1) k from to
   refused_comment_has_entry_fault i from to k p e (chosen x) =
       let one = hashes_at_hash_are_at_least_one t i e in
-      earlier_fault t i (i + hashes t i) (i + 1) (omega arith) k from to
+      entry_fault_is_fault_from_earlier t i (i + hashes t i) (i + 1) (omega arith) k from to
       (fault_is_entry_fault t i (i + hashes t i) (omega arith) k from to
       ((comment_of_level_reads_soundly i (hashes t i) p refl).on_refused i from to k refl x))

@@ -19,16 +19,18 @@ use Rattle.fluent_syntax_grammar.specs.Meaning.{kind_means}
 use Rattle.fluent_syntax_grammar.specs.Tiling.{failing_place}
 use Rattle.fluent_syntax_tree.specs.declared.edition.Edition.{Edition}
 use Rattle.fluent_syntax_tree.specs.declared.spans.Span.{Span}
-use Rattle.fluent_syntax_grammar.proofs.HoareTriple.{HoareTriple, holds_weaker, holds_bind, holds_yields, holds_fails}
+use Rattle.fluent_syntax_grammar.proofs.HoareTriple.{HoareTriple, holds_weaker, holds_bind, yields_meets_triple}
+use Rattle.fluent_syntax_grammar.proofs.HoareTriple.{fails_meets_triple}
 use Rattle.fluent_syntax_grammar.proofs.HoareTriple.{holds_fails_from, holds_skip, holds_peek, holds_branch_on}
-use Rattle.fluent_syntax_grammar.proofs.Cuts.{AreBoundaries, byte_run_ends_at_boundary, name_set_is_ascii, ascii_byte}
+use Rattle.fluent_syntax_grammar.proofs.Cuts.{AreBoundaries, byte_run_ends_at_boundary, name_set_is_ascii}
+use Rattle.fluent_syntax_grammar.proofs.Cuts.{byte_below_128_is_ascii}
 use Rattle.fluent_syntax_grammar.proofs.Sound.{IsSpan, IsPlain, Inside, Ended, IsFault, Sound, bind_is_sound}
 use Rattle.fluent_syntax_grammar.proofs.Sound.{yields_is_sound}
 use Rattle.fluent_syntax_grammar.proofs.Sound.{fails_is_sound, inline_blank_is_sound, blank_block_is_sound}
 use Rattle.fluent_syntax_grammar.proofs.SoundWords.{token_is_sound, identifier_is_sound}
 use Rattle.fluent_syntax_grammar.proofs.SoundLines as lines
 use Rattle.fluent_syntax_grammar.proofs.SoundLines.{family_is_sound}
-use Rattle.fluent_syntax_grammar.proofs.Facts.{differs, tests_imply}
+use Rattle.fluent_syntax_grammar.proofs.Facts.{absurd_test, tests_imply}
 use Rattle.fluent_syntax_grammar.proofs.Tests.{letter_is_name_byte}
 
 -- the fault of an entry that begins at i, whose failing place is not before s
@@ -52,9 +54,10 @@ fault_is_entry_fault t i s l k from to f =
     let e = plain_kind_fails_at_its_start k f.plain from to in
     record { late = omega arith; ordered = omega arith; onward = omega arith; in_text = omega arith; means = f.means }
 
-pub earlier_fault : (t : List ℕ) (i s s' : ℕ) → s' ≤ s → (k : Kind) (from to : ℕ) → IsEntryFault t i s k from to →
+pub entry_fault_is_fault_from_earlier : (t : List ℕ) (i s s' : ℕ) → s' ≤ s → (k : Kind) (from to : ℕ) →
+    IsEntryFault t i s k from to →
     IsEntryFault t i s' k from to
-earlier_fault t i s s' l k from to f = let o = f.onward in
+entry_fault_is_fault_from_earlier t i s s' l k from to f = let o = f.onward in
     record { late = f.late; ordered = f.ordered; onward = omega arith; in_text = f.in_text; means = f.means }
 
 -- sound from s on, in an entry that begins at i
@@ -83,7 +86,8 @@ module _ {t : List ℕ} {P : ℕ → Type 0} {i s : ℕ} where
       }
 
   pub yields_is_sound_entry : {A : Type 0} {Good : A → Type 0} {a : A} → Good a → SoundEntry t P i s (yields a) Good
-  yields_is_sound_entry g = record { holds = holds_yields (λ i p. record { late = p.late; place = p.place; good = g }) }
+  yields_is_sound_entry g =
+      record { holds = yields_meets_triple (λ i p. record { late = p.late; place = p.place; good = g }) }
 
 module _ (edition : Edition) (t : List ℕ) (P : ℕ → Type 0) (cuts : AreBoundaries t P) where
   pub pattern_is_sound : {s : ℕ} → Sound t P s (pattern edition t) (option_every (pattern_every (IsSpan P)))
@@ -185,7 +189,7 @@ name_moves_forward t i j e w =
     let forward = w.forward in
     let split : (i < j) ⊎ (i ≡ j) = grind arith in
     let there = tests_imply is_letter is_name_byte (slice_get t i) letter_is_name_byte e in
-    elim split [ inl l ↦ l | inr same ↦ differs (subst (λ k. has t is_name_byte k ≡ true) same there) w.longest ]
+    elim split [ inl l ↦ l | inr same ↦ absurd_test (subst (λ k. has t is_name_byte k ≡ true) same there) w.longest ]
 
 module _ (t : List ℕ) (P : ℕ → Type 0) (cuts : AreBoundaries t P) where
   pub identifier_advances : (i j : ℕ) (a : Span) → P i → identifier t i (Read a j) → Ended P (i + 1) (IsSpan P) a j
@@ -197,15 +201,18 @@ module _ (t : List ℕ) (P : ℕ → Type 0) (cuts : AreBoundaries t P) where
       record { late = omega arith; place = place; good = (forward, p, place) }
   identifier_advances i j a p (goes_on at_place (goes_on (chosen given) (second e x))) = elim x [ ]
 
-  name_refused : (i from to : ℕ) (k : Kind) → has t is_letter i ≡ true → identifier t i (Refused k from to) → ⊥
-  name_refused i from to k e (stops x) = elim x [ ]
-  name_refused i from to k e (goes_on at_place (stops (chosen x))) = elim x [ ]
-  name_refused i from to k e (goes_on at_place (goes_on (chosen given) (first f (stops x)))) = elim x [ ]
-  name_refused i from to k e (goes_on at_place (goes_on (chosen given) (first f (goes_on (passed w) (stops x))))) =
+  identifier_at_letter_is_read : (i from to : ℕ) (k : Kind) → has t is_letter i ≡ true →
+      identifier t i (Refused k from to) → ⊥
+  identifier_at_letter_is_read i from to k e (stops x) = elim x [ ]
+  identifier_at_letter_is_read i from to k e (goes_on at_place (stops (chosen x))) = elim x [ ]
+  identifier_at_letter_is_read i from to k e (goes_on at_place (goes_on (chosen given) (first f (stops x)))) =
       elim x [ ]
-  name_refused i from to k e
+  identifier_at_letter_is_read i from to k e
+      (goes_on at_place (goes_on (chosen given) (first f (goes_on (passed w) (stops x))))) =
+      elim x [ ]
+  identifier_at_letter_is_read i from to k e
       (goes_on at_place (goes_on (chosen given) (first f (goes_on (passed w) (goes_on at_place x))))) = elim x [ ]
-  name_refused i from to k e (goes_on at_place (goes_on (chosen given) (second f x))) = differs e f
+  identifier_at_letter_is_read i from to k e (goes_on at_place (goes_on (chosen given) (second f x))) = absurd_test e f
 
   identifier_at_equal_place_goes_on : (i j : ℕ) (a : Span) → P i → j ≡ i → (m : ℕ) → identifier t j (Read a m) →
       Ended P (i + 1) (IsSpan P) a m
@@ -228,7 +235,8 @@ module _ (t : List ℕ) (P : ℕ → Type 0) (cuts : AreBoundaries t P) where
   name_at_letter_reads_soundly i p l = record {
     on_read = λ j m a e x. identifier_at_equal_place_goes_on i j a p e m x;
     on_refused =
-        λ j from to k e x. absurd (name_refused i from to k l (subst (λ j. identifier t j (Refused k from to)) e x));
+        λ j from to k e x. absurd
+        (identifier_at_letter_is_read i from to k l (subst (λ j. identifier t j (Refused k from to)) e x));
   }
 
   -- a byte that is there is read
@@ -238,10 +246,11 @@ module _ (t : List ℕ) (P : ℕ → Type 0) (cuts : AreBoundaries t P) where
       (holds_peek (λ found. holds_branch_on
       (λ e. holds_bind {mid = λ u. Inside P (i + 1)}
       (holds_skip (λ j m p w. let e = p.0 in let by = w.by in let same : i + 1 ≡ m = omega arith in
-      record { late = omega arith; place = subst P same (cuts.after i (ascii_byte t b i l h)) }))
-      (λ u. holds_yields (λ j p. (refl, p))))
-      (λ e. holds_yields (λ j p. differs (subst (λ j. has_byte t b j ≡ true) (sym p.0) h) (p.1 ∙ e)))))
-      (λ found. holds_branch_on (λ e. holds_yields (λ j p. p.1)) (λ e. holds_fails (λ j p. differs p.0 e)))
+      record { late = omega arith; place = subst P same (cuts.after i (byte_below_128_is_ascii t b i l h)) }))
+      (λ u. yields_meets_triple (λ j p. (refl, p))))
+      (λ e. yields_meets_triple (λ j p. absurd_test (subst (λ j. has_byte t b j ≡ true) (sym p.0) h) (p.1 ∙ e)))))
+      (λ found. holds_branch_on (λ e. yields_meets_triple (λ j p. p.1))
+      (λ e. fails_meets_triple (λ j p. absurd_test p.0 e)))
 
 module _ (edition : Edition) (t : List ℕ) (P : ℕ → Type 0) (cuts : AreBoundaries t P) where
   abbrev EntrySpansInBounds : EntryTree Span → Type 0
@@ -259,7 +268,7 @@ module _ (edition : Edition) (t : List ℕ) (P : ℕ → Type 0) (cuts : AreBoun
   message_reads_soundly_from_its_name i s l name =
       holds_bind name
       (λ id. holds_weaker {pre = Ended P (i + 1) (IsSpan P) id} (λ j p. p) (λ a j x. x)
-      (earlier_fault t i (i + 1) s l)
+      (entry_fault_is_fault_from_earlier t i (i + 1) s l)
       (entry_after_known_result_is_sound {Mid = IsSpan P}
       (λ f. rest_after_name_is_sound edition t P cuts i id (message_with t i) f
       (λ value rest g k. message_with_is_sound edition t P cuts i id value rest f g k))))
@@ -270,10 +279,11 @@ module _ (edition : Edition) (t : List ℕ) (P : ℕ → Type 0) (cuts : AreBoun
       (message_reads_soundly_from_its_name i i (omega arith)
       (name_reads_soundly_or_has_entry_fault t P cuts i p)).on_read i j a refl x
 
-  pub message_refused : (i from to : ℕ) (k : Kind) → P i → message_entry edition t i (Refused k from to) →
+  pub refused_message_is_entry_fault : (i from to : ℕ) (k : Kind) → P i →
+      message_entry edition t i (Refused k from to) →
       IsEntryFault t i i k from to
-  message_refused i from to k p (stops x) = elim x [ ]
-  message_refused i from to k p (goes_on at_place x) =
+  refused_message_is_entry_fault i from to k p (stops x) = elim x [ ]
+  refused_message_is_entry_fault i from to k p (goes_on at_place x) =
       (message_reads_soundly_from_its_name i i (omega arith)
       (name_reads_soundly_or_has_entry_fault t P cuts i p)).on_refused i from to k refl x
 

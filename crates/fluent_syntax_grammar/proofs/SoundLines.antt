@@ -23,15 +23,18 @@ use Rattle.fluent_syntax_grammar.specs.Variants.{variant_of, variant_after, next
 use Rattle.fluent_syntax_grammar.specs.Grammar.{next, within, family}
 use Rattle.fluent_syntax_tree.specs.declared.edition.Edition.{Edition}
 use Rattle.fluent_syntax_tree.specs.declared.spans.Span.{Span}
-use Rattle.fluent_syntax_grammar.proofs.HoareTriple.{HoareTriple, yields_value, holds_weaker, holds_bind, holds_yields}
-use Rattle.fluent_syntax_grammar.proofs.HoareTriple.{holds_fails, holds_skip, holds_peek, holds_branch_on}
-use Rattle.fluent_syntax_grammar.proofs.Cuts.{AreBoundaries, ascii_byte, has_ascii, space_is_ascii_set}
+use Rattle.fluent_syntax_grammar.proofs.HoareTriple.{HoareTriple, yields_reads_its_value_in_place, holds_weaker}
+use Rattle.fluent_syntax_grammar.proofs.HoareTriple.{holds_bind, yields_meets_triple}
+use Rattle.fluent_syntax_grammar.proofs.HoareTriple.{fails_meets_triple, holds_skip, holds_peek, holds_branch_on}
+use Rattle.fluent_syntax_grammar.proofs.Cuts.{AreBoundaries, byte_below_128_is_ascii, byte_of_ascii_set_is_ascii}
+use Rattle.fluent_syntax_grammar.proofs.Cuts.{space_is_ascii_set}
 use Rattle.fluent_syntax_grammar.proofs.Cuts.{eol_is_lf_or_crlf, eol_goes_on}
 use Rattle.fluent_syntax_grammar.proofs.Cuts.{eol_ends_at_boundary, longest_run_places, byte_run_ends_at_boundary}
 use Rattle.fluent_syntax_grammar.proofs.Sound.{IsSpan, Inside, Ended, IsFault, Sound, fault_holds_of_earlier_start}
 use Rattle.fluent_syntax_grammar.proofs.Sound.{bind_is_sound}
 use Rattle.fluent_syntax_grammar.proofs.Sound.{yields_is_sound, fails_is_sound, branch_on_is_sound, here_is_sound}
-use Rattle.fluent_syntax_grammar.proofs.Sound.{known, IsPlain, good_more, many_is_sound, inline_blank_is_sound}
+use Rattle.fluent_syntax_grammar.proofs.Sound.{part_is_sound_after_good_value, IsPlain, good_more, many_is_sound}
+use Rattle.fluent_syntax_grammar.proofs.Sound.{inline_blank_is_sound}
 use Rattle.fluent_syntax_grammar.proofs.Sound.{blank_is_sound, blank_block_is_sound, run_is_onward}
 use Rattle.fluent_syntax_grammar.proofs.SoundWords.{optional_is_sound, token_is_sound}
 use Rattle.fluent_syntax_grammar.proofs.LayoutInBounds.{PieceInBounds, EndingInBounds, LineInBounds, LayoutInBounds}
@@ -54,7 +57,7 @@ module _ (t : List ℕ) (P : ℕ → Type 0) (cuts : AreBoundaries t P) where
       EndingInBounds P s (lf_at i)
   lf_ending_is_in_bounds s i k p e f =
       elim (eol_is_lf_or_crlf t i k e) [
-        | inl x ↦ (p.late, p.place, cuts.after i (ascii_byte t lf i (omega arith) x.0))
+        | inl x ↦ (p.late, p.place, cuts.after i (byte_below_128_is_ascii t lf i (omega arith) x.0))
         | inr x ↦ absurd (two_on_is_not_next i k x.2 f)
       ]
 
@@ -62,7 +65,7 @@ module _ (t : List ℕ) (P : ℕ → Type 0) (cuts : AreBoundaries t P) where
       EndingInBounds P s (crlf_at i)
   crlf_ending_is_in_bounds s i k p e f = elim (eol_is_lf_or_crlf t i k e) [
     | inl x ↦ absurd (next_number_passes_its_test i k x.1 f)
-    | inr x ↦ (let a = ascii_byte t lf (i + 1) (omega arith) x.1 in
+    | inr x ↦ (let a = byte_below_128_is_ascii t lf (i + 1) (omega arith) x.1 in
         (p.late, cuts.before (i + 1) a, subst P (one_and_one_on_is_two_on i) (cuts.after (i + 1) a)))
   ]
 
@@ -73,7 +76,7 @@ module _ (t : List ℕ) (P : ℕ → Type 0) (cuts : AreBoundaries t P) where
       let late = p.late in
       let there = w.there in
       let f = eol_goes_on t i k e in
-      let value = yields_value (if k == i + 1 then lf_at i else crlf_at i) x m j y in
+      let value = yields_reads_its_value_in_place (if k == i + 1 then lf_at i else crlf_at i) x m j y in
       let same = value.1 in
       let place : k ≡ j = omega arith in
       record {
@@ -144,11 +147,11 @@ module _ (t : List ℕ) (P : ℕ → Type 0) (cuts : AreBoundaries t P) (R : Fam
 
   piece_by_byte_reads_soundly : (s : ℕ) (o : Option ℕ) →
       HoareTriple (λ i. Inside P s i × (slice_get t i ≡ o)) (next_piece_at t R o) (EndedPiece s) (IsFault t s)
-  piece_by_byte_reads_soundly s None = holds_yields (λ i p. p.0)
+  piece_by_byte_reads_soundly s None = yields_meets_triple (λ i p. p.0)
   piece_by_byte_reads_soundly s (Some b) = holds_peek (λ eol. holds_branch_on
-      (λ e. holds_yields (λ i p. p.0.0))
+      (λ e. yields_meets_triple (λ i p. p.0.0))
       (λ e. holds_branch_on
-      (λ f. holds_fails
+      (λ f. fails_meets_triple
       (λ i p. let q = p.0.0 in
       record {
         late = q.late;
@@ -161,10 +164,10 @@ module _ (t : List ℕ) (P : ℕ → Type 0) (cuts : AreBoundaries t P) (R : Fam
       (λ g. holds_bind {mid = Ended P s (expression_every (IsSpan P))}
       (holds_weaker {pre = Inside P s} (λ i p. p.0.0) (λ a j x. x) (λ k from to x. x)
       (placeable_is_sound t P cuts R h).holds)
-      (λ x. holds_yields (λ i p. (record { late = p.late; place = p.place }, p.good))))
+      (λ x. yields_meets_triple (λ i p. (record { late = p.late; place = p.place }, p.good))))
       (λ g. holds_bind
       (holds_weaker {pre = Inside P s} (λ i p. p.0.0) (λ a j x. x) (λ k from to x. x) (text_run_reads_soundly s))
-      (λ x. holds_yields (λ i p. p))))))
+      (λ x. yields_meets_triple (λ i p. p))))))
 
   next_piece_reads_soundly : (s : ℕ) → HoareTriple (Inside P s) (next_piece t R) (EndedPiece s) (IsFault t s)
   next_piece_reads_soundly s = holds_peek (piece_by_byte_reads_soundly s)
@@ -199,7 +202,8 @@ module _ (t : List ℕ) (P : ℕ → Type 0) (cuts : AreBoundaries t P) (R : Fam
 
   places_of_leading_blank_are_boundaries : (i f m : ℕ) → P i → InlineBlank t i f → m ≤ f - i → P (i + m)
   places_of_leading_blank_are_boundaries i f m p w l = let forward = w.forward in
-      longest_run_places t P cuts (has t is_space) (λ k e. has_ascii t is_space k space_is_ascii_set e) i f p w (i + m)
+      longest_run_places t P cuts (has t is_space) (λ k e. byte_of_ascii_set_is_ascii t is_space k space_is_ascii_set e)
+      i f p w (i + m)
       (omega arith) (omega arith)
 
   read_line_is_in_bounds : (s i j : ℕ) (l : Line) → Inside P s i → line t R i (Read l j) →
@@ -214,7 +218,8 @@ module _ (t : List ℕ) (P : ℕ → Type 0) (cuts : AreBoundaries t P) (R : Fam
       let on = r.late in
       let q = (ending_reads_soundly t P cuts m).on_read m n e (record { late = omega arith; place = r.place }) y in
       let end = q.late in
-      let value = yields_value (record { start = i; spaces = f - i; pieces = ps; ending = e }) l n j z in
+      let value =
+      yields_reads_its_value_in_place (record { start = i; spaces = f - i; pieces = ps; ending = e }) l n j z in
       let same = value.1 in
       record {
         late = omega arith;
@@ -228,11 +233,12 @@ module _ (t : List ℕ) (P : ℕ → Type 0) (cuts : AreBoundaries t P) (R : Fam
         });
       }
 
-  line_refused : (s i from to : ℕ) (k : Kind) → Inside P s i → line t R i (Refused k from to) → IsFault t s k from to
-  line_refused s i from to k p (stops x) = elim x [ ]
-  line_refused s i from to k p (goes_on at_place (stops x)) = elim x [ ]
-  line_refused s i from to k p (goes_on at_place (goes_on (passed w) (stops x))) = elim x [ ]
-  line_refused s i from to k p (goes_on at_place (goes_on (passed {j = f} w) (goes_on at_place (stops x)))) =
+  refused_line_is_fault : (s i from to : ℕ) (k : Kind) → Inside P s i → line t R i (Refused k from to) →
+      IsFault t s k from to
+  refused_line_is_fault s i from to k p (stops x) = elim x [ ]
+  refused_line_is_fault s i from to k p (goes_on at_place (stops x)) = elim x [ ]
+  refused_line_is_fault s i from to k p (goes_on at_place (goes_on (passed w) (stops x))) = elim x [ ]
+  refused_line_is_fault s i from to k p (goes_on at_place (goes_on (passed {j = f} w) (goes_on at_place (stops x)))) =
       let late = p.late in
       let forward = w.forward in
       fault_holds_of_earlier_start s f (omega arith) k from to
@@ -242,14 +248,16 @@ module _ (t : List ℕ) (P : ℕ → Type 0) (cuts : AreBoundaries t P) (R : Fam
         place =
             byte_run_ends_at_boundary t P cuts is_space space_is_ascii_set i f p.place w;
       }) x)
-  line_refused s i from to k p
+  refused_line_is_fault s i from to k p
       (goes_on at_place (goes_on (passed w) (goes_on at_place (goes_on {j = m} x (stops y))))) =
       ending_is_never_refused t P cuts (IsFault t s k from to) m from to k y
-  line_refused s i from to k p (goes_on at_place (goes_on (passed w) (goes_on at_place (goes_on x (goes_on y z))))) =
+  refused_line_is_fault s i from to k p
+      (goes_on at_place (goes_on (passed w) (goes_on at_place (goes_on x (goes_on y z))))) =
       elim z [ ]
 
   line_is_sound : {s : ℕ} → Sound t P s (line t R) (LineInBounds P)
-  line_is_sound {s = s} = record { holds = record { on_read = read_line_is_in_bounds s; on_refused = line_refused s } }
+  line_is_sound {s = s} =
+      record { holds = record { on_read = read_line_is_in_bounds s; on_refused = refused_line_is_fault s } }
 
   own_line_is_sound : {s : ℕ} → Sound t P s (line t R >>= λ l. yields (item l tt))
       (good_more {S = Unit {0}} (LineInBounds P))
@@ -313,7 +321,7 @@ module _ (t : List ℕ) (P : ℕ → Type 0) (cuts : AreBoundaries t P) (R : Fam
   layout_by_eol_reads_soundly s None = holds_weaker {pre = Inside P s} (λ i p. p.0) (λ a j x. x) (λ k from to x. x)
       (here_is_sound (λ m q. record {
         holds = holds_bind (pieces_are_sound m) (λ ps. holds_bind (ending_after_pieces_reads_soundly m ps q.place) (λ e.
-            known {Mid = λ e. LineInBounds P (Opening m ps e)}
+            part_is_sound_after_good_value {Mid = λ e. LineInBounds P (Opening m ps e)}
             (λ g. bind_is_sound lines_are_sound (λ ls k. yields_is_sound (record { opening = g; lines = k })))));
       })).holds
   layout_by_eol_reads_soundly s (Some k) = holds_bind {mid = λ u. Inside P s}
@@ -378,9 +386,9 @@ module _ (edition : Edition) (t : List ℕ) (P : ℕ →
         (IsFault t s)
     select_after_arrow_reads_soundly s e g None m =
         holds_bind (variants_after_arrow_read_soundly s)
-        (λ vs. holds_yields (λ i p. record { late = p.late; place = p.place; good = (g, p.good) }))
+        (λ vs. yields_meets_triple (λ i p. record { late = p.late; place = p.place; good = (g, p.good) }))
     select_after_arrow_reads_soundly s e g (Some k) m =
-        holds_fails (λ i p. let q = p.0 in let n = m k refl i in
+        fails_meets_triple (λ i p. let q = p.0 in let n = m k refl i in
         record { late = q.late; in_text = cuts.in_text i q.place; one = refl; plain = n.0; means = n.1 })
 
     expression_after_blank_reads_soundly : (s : ℕ) (e : InlineTree Span) → inline_every (IsSpan P) e → (arrow : Bool) →
@@ -399,7 +407,7 @@ module _ (edition : Edition) (t : List ℕ) (P : ℕ →
         (λ e g. bind_is_sound (blank_is_sound t P cuts) (λ u v.
         record {
           holds =
-              holds_bind {mid = AtArrow t P cuts s} (holds_peek (λ a. holds_yields (λ i p. p)))
+              holds_bind {mid = AtArrow t P cuts s} (holds_peek (λ a. yields_meets_triple (λ i p. p)))
               (λ arrow. expression_after_blank_reads_soundly s e g arrow);
         }))
 

@@ -22,15 +22,16 @@ use Rattle.fluent_syntax_grammar.specs.Inline.{named_reference, inline_of, inlin
 use Rattle.fluent_syntax_grammar.specs.Variants.{variant_key, only_star, variants_end}
 use Rattle.fluent_syntax_tree.specs.declared.edition.Edition.{Edition}
 use Rattle.fluent_syntax_tree.specs.declared.spans.Span.{Span}
-use Rattle.fluent_syntax_grammar.proofs.HoareTriple.{HoareTriple, holds_weaker, holds_fails, holds_skip, holds_peek}
-use Rattle.fluent_syntax_grammar.proofs.Cuts.{AreBoundaries, ascii_byte, eol_goes_on, eol_ends_at_boundary}
+use Rattle.fluent_syntax_grammar.proofs.HoareTriple.{HoareTriple, holds_weaker, fails_meets_triple, holds_skip}
+use Rattle.fluent_syntax_grammar.proofs.HoareTriple.{holds_peek}
+use Rattle.fluent_syntax_grammar.proofs.Cuts.{AreBoundaries, byte_below_128_is_ascii, eol_goes_on, eol_ends_at_boundary}
 use Rattle.fluent_syntax_grammar.proofs.Sound.{IsSpan, IsPlain, Inside, Ended, IsFault, Sound, bind_is_sound}
 use Rattle.fluent_syntax_grammar.proofs.Sound.{yields_is_sound, fails_is_sound, peek_is_sound, branch_on_is_sound}
 use Rattle.fluent_syntax_grammar.proofs.Sound.{inline_blank_is_sound, blank_is_sound, good_more, many_is_sound}
 use Rattle.fluent_syntax_grammar.proofs.SoundWords.{optional_is_sound, token_is_sound, identifier_is_sound}
 use Rattle.fluent_syntax_grammar.proofs.SoundWords.{number_is_sound}
 use Rattle.fluent_syntax_grammar.proofs.SoundStrings.{string_is_sound}
-use Rattle.fluent_syntax_grammar.proofs.Facts.{holds-none, right_true}
+use Rattle.fluent_syntax_grammar.proofs.Facts.{holds-none, and_gives_right}
 
 pub record IsSoundFamily (t : List ℕ) (P : ℕ → Type 0) (R : Family) : Type 0 where
   pub expression : (s : ℕ) → Sound t P s R.expression (expression_every (IsSpan P))
@@ -115,7 +116,7 @@ module _ (t : List ℕ) (P : ℕ → Type 0) (cuts : AreBoundaries t P) where
   arrow_line_end_reads_soundly : (s : ℕ) (o : Option ℕ) →
       HoareTriple (λ i. Inside P s i × (after_eol t i ≡ o)) (arrow_line_end o) (Ended P s (λ u. Unit {0})) (IsFault t s)
   arrow_line_end_reads_soundly s None =
-      holds_fails (λ i p. let q = p.0 in
+      fails_meets_triple (λ i p. let q = p.0 in
       record { late = q.late; in_text = cuts.in_text i q.place; one = refl; plain = tt; means = tt })
   arrow_line_end_reads_soundly s (Some k) =
       holds_skip (λ i j p w. let q = p.0 in let l = q.late in let f = eol_goes_on t i k p.1 in let e = w.there in
@@ -137,7 +138,8 @@ module _ (t : List ℕ) (P : ℕ → Type 0) (cuts : AreBoundaries t P) where
         late = omega arith;
         place =
             subst P e (cuts.after (i + 1)
-            (ascii_byte t 62 (i + 1) (omega arith) (right_true (has_byte t 45 i) (has_byte t 62 (i + 1)) p.1)));
+            (byte_below_128_is_ascii t 62 (i + 1) (omega arith)
+            (and_gives_right (has_byte t 45 i) (has_byte t 62 (i + 1)) p.1)));
       }
 
 module _ (t : List ℕ) (P : ℕ → Type 0) (cuts : AreBoundaries t P) (R : Family) (h : IsSoundFamily t P R) where
@@ -209,7 +211,7 @@ module _ (t : List ℕ) (P : ℕ → Type 0) (cuts : AreBoundaries t P) (R : Fam
       HoareTriple (λ i. Inside P s i × (slice_get t i ≡ o)) (next_argument_at t R names o)
       (Ended P s (good_more (ArgumentSpansInBounds P))) (IsFault t s)
   argument_by_byte_reads_soundly s names None =
-      holds_fails (λ i p. let q = p.0 in
+      fails_meets_triple (λ i p. let q = p.0 in
       record {
         late = q.late;
         in_text = cuts.in_text i q.place;

@@ -10,9 +10,11 @@ use Rattle.fluent_syntax_grammar.specs.Places.{has_byte, Steps}
 use Rattle.fluent_syntax_grammar.specs.Construct.{Read, Refused}
 use Rattle.fluent_syntax_grammar.specs.Strings.{HexDigits, hex_digits, all_there, too_few, escaped, string_unit}
 use Rattle.fluent_syntax_grammar.specs.Strings.{string_units, before_quote, unit_and_more, bad_unit, string_literal}
-use Rattle.fluent_syntax_grammar.proofs.HoareTriple.{HoareTriple, holds_weaker, holds_bind, holds_fails, holds_skip}
+use Rattle.fluent_syntax_grammar.proofs.HoareTriple.{HoareTriple, holds_weaker, holds_bind, fails_meets_triple}
+use Rattle.fluent_syntax_grammar.proofs.HoareTriple.{holds_skip}
 use Rattle.fluent_syntax_grammar.proofs.HoareTriple.{holds_peek, holds_branch_on}
-use Rattle.fluent_syntax_grammar.proofs.Cuts.{AsciiAt, AreBoundaries, has_ascii, ascii_byte, hex_digit_is_ascii}
+use Rattle.fluent_syntax_grammar.proofs.Cuts.{AsciiAt, AreBoundaries, byte_of_ascii_set_is_ascii}
+use Rattle.fluent_syntax_grammar.proofs.Cuts.{byte_below_128_is_ascii, hex_digit_is_ascii}
 use Rattle.fluent_syntax_grammar.proofs.Sound.{IsSpan, Inside, Ended, IsFault, Sound, bind_is_sound, yields_is_sound}
 use Rattle.fluent_syntax_grammar.proofs.Sound.{here_is_sound, spanned_is_sound}
 use Rattle.fluent_syntax_grammar.proofs.SoundWords.{token_is_sound}
@@ -34,7 +36,8 @@ module _ (t : List ℕ) where
         | inl m ↦
             (let last =
             ascii_place_is_inside_text (k - 1)
-            (has_ascii t is_ascii_hexdigit (k - 1) hex_digit_is_ascii (h.each (k - 1) (omega arith) (omega arith))) in
+            (byte_of_ascii_set_is_ascii t is_ascii_hexdigit (k - 1) hex_digit_is_ascii
+            (h.each (k - 1) (omega arith) (omega arith))) in
             omega arith)
         | inr e ↦ omega arith
       ]
@@ -65,42 +68,45 @@ module _ (t : List ℕ) where
       record { on_read = read_hex_digits_end_in_text s w; on_refused = refused_hex_digits_have_fault_in_text s w }
 
   -- two bytes on
-  skip_two : (s i j : ℕ) (b : ℕ) → Inside (InText t) s i → slice_get t (i + 1) ≡ Some b → Steps 2 i j →
+  two_steps_end_in_text : (s i j : ℕ) (b : ℕ) → Inside (InText t) s i → slice_get t (i + 1) ≡ Some b → Steps 2 i j →
       Inside (InText t) s j
-  skip_two s i j b p e w = let late = p.late in let by = w.by in let l = slice_get_within t (i + 1) b e in
+  two_steps_end_in_text s i j b p e w = let late = p.late in let by = w.by in let l = slice_get_within t (i + 1) b e in
       record { late = omega arith; place = omega arith }
 
   escape_reads_soundly : (s : ℕ) (o : Option ℕ) →
       HoareTriple (λ i. Inside (InText t) s i × (slice_get t (i + 1) ≡ o)) (escaped t o) (Ended (InText t) s Any)
       (IsFault t s)
   escape_reads_soundly s None =
-      holds_fails (λ i p. let q = p.0 in
+      fails_meets_triple (λ i p. let q = p.0 in
       record { late = q.late; in_text = q.place; one = refl; plain = tt; means = tt })
   escape_reads_soundly s (Some b) =
       holds_branch_on (λ e.
-      holds_skip (λ i j p w. let q = skip_two s i j b p.0 p.1 w in
+      holds_skip (λ i j p w. let q = two_steps_end_in_text s i j b p.0 p.1 w in
       record { late = q.late; place = q.place; good = tt }))
       (λ e. holds_branch_on
-      (λ e. holds_bind {mid = λ u. Inside (InText t) s} (holds_skip (λ i j p w. skip_two s i j b p.0 p.1 w))
+      (λ e. holds_bind {mid = λ u. Inside (InText t) s}
+      (holds_skip (λ i j p w. two_steps_end_in_text s i j b p.0 p.1 w))
       (λ u. hex_digits_read_soundly s 4))
       (λ e. holds_branch_on
-      (λ e. holds_bind {mid = λ u. Inside (InText t) s} (holds_skip (λ i j p w. skip_two s i j b p.0 p.1 w))
+      (λ e. holds_bind {mid = λ u. Inside (InText t) s}
+      (holds_skip (λ i j p w. two_steps_end_in_text s i j b p.0 p.1 w))
       (λ u. hex_digits_read_soundly s 6))
-      (λ e. holds_fails
+      (λ e. fails_meets_triple
       (λ i p. let q = p.0 in record { late = q.late; in_text = q.place; one = refl; plain = tt; means = tt }))))
 
   -- before a unit there is no quote
   abbrev AtUnit : ℕ → Option ℕ → ℕ → Type 0
   AtUnit s o i = Inside (InText t) s i × (slice_get t i ≡ o) × (has_byte t 34 i ≡ false)
 
-  pub unit_holds : (s : ℕ) (o : Option ℕ) → HoareTriple (AtUnit s o) (string_unit t o) (Ended (InText t) s Any)
+  pub string_unit_is_sound : (s : ℕ) (o : Option ℕ) →
+      HoareTriple (AtUnit s o) (string_unit t o) (Ended (InText t) s Any)
       (IsFault t s)
-  unit_holds s None =
-      holds_fails (λ i p. let q = p.0 in
+  string_unit_is_sound s None =
+      fails_meets_triple (λ i p. let q = p.0 in
       record { late = q.late; in_text = q.place; one = refl; plain = tt; means = p.2 })
-  unit_holds s (Some b) =
+  string_unit_is_sound s (Some b) =
       holds_branch_on (λ e.
-      holds_fails (λ i p. let q = p.0 in
+      fails_meets_triple (λ i p. let q = p.0 in
       record {
         late = q.late;
         in_text = q.place;
@@ -122,16 +128,16 @@ module _ (t : List ℕ) where
       AtQuote s a j
   read_units_end_at_quote s i j a p (before_quote e) = (p, e)
   read_units_end_at_quote s i j a p (unit_and_more {j = m} e x y) =
-      let q = (unit_holds s (slice_get t i)).on_read i m tt (p, refl, e) x in
+      let q = (string_unit_is_sound s (slice_get t i)).on_read i m tt (p, refl, e) x in
       read_units_end_at_quote s m j a (record { late = q.late; place = q.place }) y
 
   refused_units_have_fault_in_text : (s i from to : ℕ) (k : Kind) → Inside (InText t) s i →
       string_units t i (Refused k from to) → IsFault t s k from to
   refused_units_have_fault_in_text s i from to k p (unit_and_more {j = m} e x y) =
-      let q = (unit_holds s (slice_get t i)).on_read i m tt (p, refl, e) x in
+      let q = (string_unit_is_sound s (slice_get t i)).on_read i m tt (p, refl, e) x in
       refused_units_have_fault_in_text s m from to k (record { late = q.late; place = q.place }) y
   refused_units_have_fault_in_text s i from to k p (bad_unit e x) =
-      (unit_holds s (slice_get t i)).on_refused i from to k (p, refl, e) x
+      (string_unit_is_sound s (slice_get t i)).on_refused i from to k (p, refl, e) x
 
 module _ (t : List ℕ) (P : ℕ → Type 0) (cuts : AreBoundaries t P) where
   boundary_is_in_text : (s i : ℕ) → Inside P s i → Inside (InText t) s i
@@ -141,7 +147,7 @@ module _ (t : List ℕ) (P : ℕ → Type 0) (cuts : AreBoundaries t P) where
   units_are_sound {s = s} = record {
     holds = record {
       on_read = λ i j a p x. let q = read_units_end_at_quote t s i j a (boundary_is_in_text s i p) x in let r = q.0 in
-          record { late = r.late; place = cuts.before j (ascii_byte t 34 j (omega arith) q.1); good = tt };
+          record { late = r.late; place = cuts.before j (byte_below_128_is_ascii t 34 j (omega arith) q.1); good = tt };
       on_refused = λ i from to k p x. refused_units_have_fault_in_text t s i from to k (boundary_is_in_text s i p) x;
     };
   }

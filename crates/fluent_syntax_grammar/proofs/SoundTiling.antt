@@ -17,15 +17,17 @@ use Rattle.fluent_syntax_grammar.specs.Tiling.{starts_entry, JunkEnd, whole_line
 use Rattle.fluent_syntax_grammar.specs.Tiling.{TileAt, reads, refuses, RuntimeTileAt, drops, keeps_tile}
 use Rattle.fluent_syntax_tree.specs.declared.edition.Edition.{Edition}
 use Rattle.fluent_syntax_tree.specs.declared.spans.Span.{Span}
-use Rattle.fluent_syntax_grammar.proofs.Cuts.{IsAsciiSet, AreBoundaries, has_ascii, block_place}
+use Rattle.fluent_syntax_grammar.proofs.Cuts.{IsAsciiSet, AreBoundaries, byte_of_ascii_set_is_ascii}
+use Rattle.fluent_syntax_grammar.proofs.Cuts.{end_of_block_is_place}
 use Rattle.fluent_syntax_grammar.proofs.Sound.{IsSpan, Inside, Ended, bind_is_sound, rest_of_line_is_sound}
 use Rattle.fluent_syntax_grammar.proofs.Sound.{optional_eol_is_sound}
-use Rattle.fluent_syntax_grammar.proofs.SoundEntries.{IsEntryFault, earlier_fault, message_ends_inside, message_refused}
+use Rattle.fluent_syntax_grammar.proofs.SoundEntries.{IsEntryFault, entry_fault_is_fault_from_earlier}
+use Rattle.fluent_syntax_grammar.proofs.SoundEntries.{message_ends_inside, refused_message_is_entry_fault}
 use Rattle.fluent_syntax_grammar.proofs.SoundEntries.{message_refused_at_letter_fails_past_it}
 use Rattle.fluent_syntax_grammar.proofs.SoundEntries.{read_term_has_spans_in_bounds, refused_term_has_entry_fault}
 use Rattle.fluent_syntax_grammar.proofs.SoundComments.{read_comment_has_spans_in_bounds}
 use Rattle.fluent_syntax_grammar.proofs.SoundComments.{refused_comment_has_entry_fault}
-use Rattle.fluent_syntax_grammar.proofs.Facts.{holds-some, at_most_is_less_or_same, right_true, byte_passes}
+use Rattle.fluent_syntax_grammar.proofs.Facts.{holds-some, at_most_is_less_or_same, and_gives_right, byte_passes}
 
 entry_byte_is_ascii : IsAsciiSet is_entry_byte
 entry_byte_is_ascii = record { small = λ b e. grind (arith, nat_tests) }
@@ -39,7 +41,8 @@ none_passes_no_test test o e f = false≢true (rw e at f)
 
 fault_past_start_is_entry_fault : {t : List ℕ} (i from to : ℕ) (k : Kind) → IsEntryFault t i (i + 1) k from to →
     IsEntryFault t i i k from to
-fault_past_start_is_entry_fault {t = t} i from to k f = earlier_fault t i (i + 1) i (omega arith) k from to f
+fault_past_start_is_entry_fault {t = t} i from to k f =
+    entry_fault_is_fault_from_earlier t i (i + 1) i (omega arith) k from to f
 
 module _ (edition : Edition) (t : List ℕ) (P : ℕ → Type 0) (cuts : AreBoundaries t P) where
   abbrev EntrySpansInBounds : EntryTree Span → Type 0
@@ -63,7 +66,8 @@ module _ (edition : Edition) (t : List ℕ) (P : ℕ → Type 0) (cuts : AreBoun
 
   entry_refused_by_byte_has_entry_fault : (i from to : ℕ) (k : Kind) (o : Option ℕ) → slice_get t i ≡ o → P i →
       entry_of edition t (family edition t) o i (Refused k from to) → IsEntryFault t i i k from to
-  entry_refused_by_byte_has_entry_fault i from to k None e p x = message_refused edition t P cuts i from to k p x
+  entry_refused_by_byte_has_entry_fault i from to k None e p x =
+      refused_message_is_entry_fault edition t P cuts i from to k p x
   entry_refused_by_byte_has_entry_fault i from to k (Some b) e p (first f x) =
       fault_past_start_is_entry_fault i from to k
       (refused_comment_has_entry_fault t P cuts i from to k p (holds-some (λ c. c == 35) (slice_get t i) b e f) x)
@@ -71,7 +75,7 @@ module _ (edition : Edition) (t : List ℕ) (P : ℕ → Type 0) (cuts : AreBoun
       fault_past_start_is_entry_fault i from to k
       (refused_term_has_entry_fault edition t P cuts i from to k (holds-some (λ c. c == 45) (slice_get t i) b e g) x)
   entry_refused_by_byte_has_entry_fault i from to k (Some b) e p (second f (second g x)) =
-      message_refused edition t P cuts i from to k p x
+      refused_message_is_entry_fault edition t P cuts i from to k p x
 
   pub refused_entry_has_entry_fault : (i from to : ℕ) (k : Kind) → P i → entry_at edition t i (Refused k from to) →
       IsEntryFault t i i k from to
@@ -112,7 +116,8 @@ module _ (edition : Edition) (t : List ℕ) (P : ℕ → Type 0) (cuts : AreBoun
   junk_end_is_boundary : (place j : ℕ) → JunkEnd t place j → P j
   junk_end_is_boundary place j e = elim e.stop [
     | inl h ↦ cuts.before j
-        (has_ascii t is_entry_byte j entry_byte_is_ascii (right_true (starts_line t j) (has t is_entry_byte j) h))
+        (byte_of_ascii_set_is_ascii t is_entry_byte j entry_byte_is_ascii
+        (and_gives_right (starts_line t j) (has t is_entry_byte j) h))
     | inr n ↦ subst P (sym n) cuts.at_end
   ]
 
@@ -120,7 +125,7 @@ module _ (edition : Edition) (t : List ℕ) (P : ℕ → Type 0) (cuts : AreBoun
       (has t is_entry_byte i ≡ true → i + 1 ≤ place) → i ≡ j → place ≤ j →
       (starts_entry t j ≡ true) ⊎ (j ≡ length t) → i < j
   junk_that_ends_at_start_is_not_empty i j place l f same forward stop = elim stop [
-    | inl h ↦ (let there = right_true (starts_line t j) (has t is_entry_byte j) h in
+    | inl h ↦ (let there = and_gives_right (starts_line t j) (has t is_entry_byte j) h in
         let on = f (subst (λ k. has t is_entry_byte k ≡ true) (sym same) there) in omega arith)
     | inr n ↦ omega arith
   ]
@@ -136,12 +141,13 @@ module _ (edition : Edition) (t : List ℕ) (P : ℕ → Type 0) (cuts : AreBoun
             junk_that_ends_at_start_is_not_empty i j place l f same forward e.stop
       ]
 
-  pub tile_good : (i j : ℕ) (tile : Tile) → P i → i < length t → TileAt edition t i j tile → EndedTile i j tile
-  tile_good i j tile p l (reads {e = e} x) =
+  pub tile_at_place_is_ended_tile : (i j : ℕ) (tile : Tile) → P i → i < length t → TileAt edition t i j tile →
+      EndedTile i j tile
+  tile_at_place_is_ended_tile i j tile p l (reads {e = e} x) =
       let q = read_entry_has_spans_in_bounds i j e p x in
       let on = q.late in
       record { onward = omega arith; place = q.place; good = (omega arith, (omega arith, p, q.place), q.good) }
-  tile_good i j tile p l (refuses {from = from} {to = to} {k = k} x e) =
+  tile_at_place_is_ended_tile i j tile p l (refuses {from = from} {to = to} {k = k} x e) =
       let f = refused_entry_has_entry_fault i from to k p x in
       let late = f.late in
       let ordered = f.ordered in
@@ -164,16 +170,16 @@ module _ (edition : Edition) (t : List ℕ) (P : ℕ → Type 0) (cuts : AreBoun
       list_every IsTileWellFormed tiles
   tiles_are_well_formed i tiles p (done b) = tt
   tiles_are_well_formed i tiles p (next {start = start} {end = end} {tile = tile} {tiles = more} b l x y) =
-      let q = tile_good start end tile (block_place t P cuts i start p b) l x in
+      let q = tile_at_place_is_ended_tile start end tile (end_of_block_is_place t P cuts i start p b) l x in
       (q.good, tiles_are_well_formed end more q.place y)
 
   pub runtime_tiles_are_well_formed : (i : ℕ) (tiles : List Tile) → P i → Tiled t (RuntimeTileAt edition t) i tiles →
       list_every IsTileWellFormed tiles
   runtime_tiles_are_well_formed i tiles p (done b) = tt
   runtime_tiles_are_well_formed i tiles p (next {start = start} {end = end} {tiles = more} b l (drops h x) y) =
-      let q = whole_line_ends_inside start end (block_place t P cuts i start p b) x in
+      let q = whole_line_ends_inside start end (end_of_block_is_place t P cuts i start p b) x in
       (tt, runtime_tiles_are_well_formed end more q.place y)
   runtime_tiles_are_well_formed i tiles p
       (next {start = start} {end = end} {tile = tile} {tiles = more} b l (keeps_tile h x) y) =
-      let q = tile_good start end tile (block_place t P cuts i start p b) l x in
+      let q = tile_at_place_is_ended_tile start end tile (end_of_block_is_place t P cuts i start p b) l x in
       (q.good, runtime_tiles_are_well_formed end more q.place y)

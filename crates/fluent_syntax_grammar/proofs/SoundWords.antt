@@ -6,9 +6,10 @@ use Rattle.fluent_syntax_tree.specs.Kind.{ExpectedCharRange}
 use Rattle.fluent_syntax_grammar.specs.Places.{has_byte}
 use Rattle.fluent_syntax_grammar.specs.Construct.{fails}
 use Rattle.fluent_syntax_grammar.specs.Tokens.{optional, token, digits, identifier, number}
-use Rattle.fluent_syntax_grammar.proofs.HoareTriple.{HoareTriple, holds_weaker, holds_bind, holds_yields, holds_fails}
+use Rattle.fluent_syntax_grammar.proofs.HoareTriple.{HoareTriple, holds_weaker, holds_bind, yields_meets_triple}
+use Rattle.fluent_syntax_grammar.proofs.HoareTriple.{fails_meets_triple}
 use Rattle.fluent_syntax_grammar.proofs.HoareTriple.{holds_skip, holds_peek, holds_branch_on}
-use Rattle.fluent_syntax_grammar.proofs.Cuts.{AreBoundaries, ascii_byte, digit_is_ascii, name_set_is_ascii}
+use Rattle.fluent_syntax_grammar.proofs.Cuts.{AreBoundaries, byte_below_128_is_ascii, digit_is_ascii, name_set_is_ascii}
 use Rattle.fluent_syntax_grammar.proofs.Sound.{IsSpan, Inside, IsFault, Sound, bind_is_sound, yields_is_sound}
 use Rattle.fluent_syntax_grammar.proofs.Sound.{fails_is_sound, skip_is_sound, peek_is_sound, branch_on_is_sound}
 use Rattle.fluent_syntax_grammar.proofs.Sound.{here_is_sound, spanned_is_sound, word_is_onward}
@@ -32,10 +33,10 @@ module _ (t : List ℕ) (P : ℕ → Type 0) (cuts : AreBoundaries t P) where
       (holds_skip (λ i j p w. let q = p.0 in let late = q.late in let by = w.by in
       record {
         late = omega arith;
-        place = subst P (sym by) (cuts.after i (ascii_byte t b i (byte_below_128_is_small b l) (p.1 ∙ e)));
+        place = subst P (sym by) (cuts.after i (byte_below_128_is_ascii t b i (byte_below_128_is_small b l) (p.1 ∙ e)));
       }))
-      (λ u. holds_yields (λ i p. record { inside = p; missing = λ no. absurd (true_differs_from_false no) })))
-      (λ e. holds_yields (λ i p. record { inside = p.0; missing = λ no. p.1 ∙ e })))
+      (λ u. yields_meets_triple (λ i p. record { inside = p; missing = λ no. absurd (true_differs_from_false no) })))
+      (λ e. yields_meets_triple (λ i p. record { inside = p.0; missing = λ no. p.1 ∙ e })))
 
   pub optional_is_sound : {s : ℕ} (b : ℕ) → nat_lt b 128 ≡ true → Sound t P s (optional t b) (λ found. Unit {0})
   optional_is_sound {s = s} b l =
@@ -48,8 +49,8 @@ module _ (t : List ℕ) (P : ℕ → Type 0) (cuts : AreBoundaries t P) where
   pub token_is_sound : {s : ℕ} (b : ℕ) → nat_lt b 128 ≡ true → Sound t P s (token t b) (λ u. Unit {0})
   token_is_sound {s = s} b l = record {
     holds = holds_bind (optional_byte_reads_soundly s b l) (λ found. holds_branch_on
-        (λ e. holds_yields (λ i p. let q = p.inside in record { late = q.late; place = q.place; good = tt }))
-        (λ e. holds_fails
+        (λ e. yields_meets_triple (λ i p. let q = p.inside in record { late = q.late; place = q.place; good = tt }))
+        (λ e. fails_meets_triple
         (λ i p. let q = p.inside in
         record {
           late = q.late;

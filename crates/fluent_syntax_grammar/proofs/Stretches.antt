@@ -10,7 +10,7 @@ use Rattle.fluent_syntax_grammar.specs.Places.{LongestRun, has, starts_line}
 use Rattle.fluent_syntax_grammar.specs.Construct.{Outcome, Read, Refused}
 use Rattle.fluent_syntax_grammar.specs.Strings.{HexDigits, hex_digits, all_there, too_few, after_character}
 use Rattle.fluent_syntax_grammar.specs.Tiling.{is_entry_byte, starts_entry, JunkEnd}
-use Rattle.fluent_syntax_grammar.proofs.Facts.{byte_exists, equal, at_most_is_same_or_next_on, right_true}
+use Rattle.fluent_syntax_grammar.proofs.Facts.{byte_exists, same_by_test, at_most_is_same_or_next_on, and_gives_right}
 
 -- ---- the longest run
 
@@ -75,7 +75,7 @@ module _ (t : List ℕ) where
 
   hex_digits_have_outcome_by_count : (w i k : ℕ) (b : Bool) → (k == i + w) ≡ b → HexDigits t i w k →
       (o : Outcome (Unit {0})) × hex_digits t w i o
-  hex_digits_have_outcome_by_count w i k true e h = (Read tt k, all_there h (equal k (i + w) e))
+  hex_digits_have_outcome_by_count w i k true e h = (Read tt k, all_there h (same_by_test k (i + w) e))
   hex_digits_have_outcome_by_count w i k false e h =
       let m = h.most in (
         Refused (InvalidUnicodeEscapeSequence (slice_range t i (after_character t k))) k (k + 1),
@@ -91,7 +91,7 @@ module _ (t : List ℕ) where
 
   pub junk_ends_at_entry : (k : ℕ) → starts_entry t k ≡ true → JunkEnd t k k
   junk_ends_at_entry k e =
-      let b = byte_exists is_entry_byte (slice_get t k) (right_true (starts_line t k) (has t is_entry_byte k) e) in
+      let b = byte_exists is_entry_byte (slice_get t k) (and_gives_right (starts_line t k) (has t is_entry_byte k) e) in
       let l = slice_get_within t k b.0 b.1 in
       record {
         forward = omega arith;

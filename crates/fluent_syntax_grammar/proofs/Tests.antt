@@ -2,13 +2,13 @@
 use Rattle.std.proofs.Common.{◌≡◌, ℕ, Bool, true, false, refl, inl, inr, arith}
 use Rattle.std.proofs.lemmas.Bool.Decides.{nat_tests}
 use Rattle.std.specs.Prelude.{◌==◌, ◌&&◌, ◌||◌, ◌⊎◌, not}
-use Rattle.fluent_syntax_grammar.proofs.Facts.{equal}
+use Rattle.fluent_syntax_grammar.proofs.Facts.{same_by_test}
 use Rattle.fluent_syntax_grammar.specs.Bytes.{is_letter, is_name_byte}
 
--- ---- both_true, or one of them
+-- ---- true_and_true, or one of them
 
-pub both_true : {x y : Bool} → x ≡ true → y ≡ true → (x && y) ≡ true
-both_true e f = rw (e, f) refl
+pub true_and_true : {x y : Bool} → x ≡ true → y ≡ true → (x && y) ≡ true
+true_and_true e f = rw (e, f) refl
 
 pub and_with_false_is_false : (x : Bool) → (x && false) ≡ false
 and_with_false_is_false true = refl
@@ -39,26 +39,26 @@ or_of_three_is_true_by_second x y z e = true_by_left (x || y) z (true_by_right x
 pub or_of_three_is_true_by_third : (x y z : Bool) → z ≡ true → (x || y || z) ≡ true
 or_of_three_is_true_by_third x y z e = true_by_right (x || y) z e
 
-pub or_cases : (x y : Bool) → (x || y) ≡ true → (x ≡ true) ⊎ (y ≡ true)
-or_cases true y e = inl refl
-or_cases false y e = inr e
+pub or_has_true_side : (x y : Bool) → (x || y) ≡ true → (x ≡ true) ⊎ (y ≡ true)
+or_has_true_side true y e = inl refl
+or_has_true_side false y e = inr e
 
 -- ---- neither, and not
 
 pub or_is_false : (x y : Bool) → x ≡ false → y ≡ false → (x || y) ≡ false
 or_is_false x y e f = rw (e, f) refl
 
-pub neither_left : (x y : Bool) → (x || y) ≡ false → x ≡ false
-neither_left true y e = cc
-neither_left false y e = refl
+pub false_or_left : (x y : Bool) → (x || y) ≡ false → x ≡ false
+false_or_left true y e = cc
+false_or_left false y e = refl
 
-pub neither_right : (x y : Bool) → (x || y) ≡ false → y ≡ false
-neither_right true y e = cc
-neither_right false y e = e
+pub false_or_right : (x y : Bool) → (x || y) ≡ false → y ≡ false
+false_or_right true y e = cc
+false_or_right false y e = e
 
-pub not_false : (x : Bool) → x ≡ false → not x ≡ true
-not_false true e = cc
-not_false false e = refl
+pub not_of_false_is_true : (x : Bool) → x ≡ false → not x ≡ true
+not_of_false_is_true true e = cc
+not_of_false_is_true false e = refl
 
 pub not_true_is_false : (x : Bool) → not x ≡ true → x ≡ false
 not_true_is_false true e = cc
@@ -75,8 +75,8 @@ letter_is_name_byte b e = grind (arith, nat_tests)
 
 bytes_differ_by_tests : (p : ℕ → Bool) (b c : ℕ) (x : Bool) → (b == c) ≡ x → p b ≡ true → p c ≡ false → x ≡ false
 bytes_differ_by_tests p b c false e f g = refl
-bytes_differ_by_tests p b c true e f g = let same = equal b c e in cc
+bytes_differ_by_tests p b c true e f g = let same = same_by_test b c e in cc
 
 -- a byte that passes a test is not one that fails it
-pub differ : (p : ℕ → Bool) (b c : ℕ) → p b ≡ true → p c ≡ false → (b == c) ≡ false
-differ p b c f g = bytes_differ_by_tests p b c (b == c) refl f g
+pub parted_by_test : (p : ℕ → Bool) (b c : ℕ) → p b ≡ true → p c ≡ false → (b == c) ≡ false
+parted_by_test p b c f g = bytes_differ_by_tests p b c (b == c) refl f g

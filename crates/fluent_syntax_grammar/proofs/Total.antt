@@ -5,8 +5,9 @@ use Rattle.fluent_syntax_grammar.specs.Construct.{Outcome, Read, Refused, Constr
 use Rattle.fluent_syntax_grammar.specs.Construct.{given, here, at_place, fails, failed, fails_from, failed_from, skip}
 use Rattle.fluent_syntax_grammar.specs.Construct.{passed, peek, chosen, branch_on, first, second, More, no_item, item}
 use Rattle.fluent_syntax_grammar.specs.Construct.{many, list_ends, list_stops, item_and_more, stops_later}
-use Rattle.fluent_syntax_grammar.proofs.HoareTriple.{HoareTriple, holds_weaker, holds_bind, holds_yields, holds_here}
-use Rattle.fluent_syntax_grammar.proofs.HoareTriple.{holds_fails, holds_fails_from, holds_skip, holds_peek}
+use Rattle.fluent_syntax_grammar.proofs.HoareTriple.{HoareTriple, holds_weaker, holds_bind, yields_meets_triple}
+use Rattle.fluent_syntax_grammar.proofs.HoareTriple.{here_meets_triple}
+use Rattle.fluent_syntax_grammar.proofs.HoareTriple.{fails_meets_triple, holds_fails_from, holds_skip, holds_peek}
 use Rattle.fluent_syntax_grammar.proofs.HoareTriple.{holds_branch_on}
 
 -- a place of the text from s on
@@ -56,13 +57,13 @@ weakened_construct_decides p r x =
 
 pub yields_decides : {A : Type 0} {pre : ℕ → Type 0} {read : A → ℕ → Type 0} {a : A} → ((i : ℕ) → pre i → read a i) →
     Decides pre (yields a) read
-yields_decides {a = a} h = record { has = λ i p. (Read a i, given); on = holds_yields h }
+yields_decides {a = a} h = record { has = λ i p. (Read a i, given); on = yields_meets_triple h }
 
 pub here_decides : {pre : ℕ → Type 0} {read : ℕ → ℕ → Type 0} → ((i : ℕ) → pre i → read i i) → Decides pre here read
-here_decides h = record { has = λ i p. (Read i i, at_place); on = holds_here h }
+here_decides h = record { has = λ i p. (Read i i, at_place); on = here_meets_triple h }
 
 pub fails_decides : {A : Type 0} {pre : ℕ → Type 0} {read : A → ℕ → Type 0} {k : Kind} → Decides pre (fails k) read
-fails_decides {k = k} = record { has = λ i p. (Refused k i (i + 1), failed refl); on = holds_fails (λ i p. tt) }
+fails_decides {k = k} = record { has = λ i p. (Refused k i (i + 1), failed refl); on = fails_meets_triple (λ i p. tt) }
 
 pub fails_from_decides : {A : Type 0} {pre : ℕ → Type 0} {read : A → ℕ → Type 0} {k : Kind} {start : ℕ} →
     Decides pre (fails_from k start) read
@@ -111,22 +112,22 @@ pub record IsTotalRelation (t : List ℕ) (W : ℕ → ℕ → Type 0) : Type 0 
   pub in_text : (i j : ℕ) → i ≤ length t → W i j → j ≤ length t
 
 module _ {t : List ℕ} {s : ℕ} where
-  pub yields_is_onward : {A : Type 0} {a : A} → TotalOnward t s (yields a)
-  yields_is_onward = yields_decides (λ i p. p)
+  pub yields_is_total_onward : {A : Type 0} {a : A} → TotalOnward t s (yields a)
+  yields_is_total_onward = yields_decides (λ i p. p)
 
-  pub here_is_onward : TotalOnward t s here
-  here_is_onward = here_decides (λ i p. p)
+  pub here_is_total_onward : TotalOnward t s here
+  here_is_total_onward = here_decides (λ i p. p)
 
-  pub skip_is_onward : {W : ℕ → ℕ → Type 0} → IsTotalRelation t W → TotalOnward t s (skip W)
-  skip_is_onward w =
+  pub skip_is_total_onward : {W : ℕ → ℕ → Type 0} → IsTotalRelation t W → TotalOnward t s (skip W)
+  skip_is_total_onward w =
       skip_decides (λ i p. w.exists i p.in_text) (λ i j p x. let late = p.late in let f = w.forward i j x in
       record { late = omega arith; in_text = w.in_text i j p.in_text x })
 
   pub from_later_is_from_earlier : (i : ℕ) → From t (s + 1) i → From t s i
   from_later_is_from_earlier i p = let late = p.late in record { late = omega arith; in_text = p.in_text }
 
-  pub strict_is_onward : {A : Type 0} {c : Construct A} → TotalConsuming t s c → TotalOnward t s c
-  strict_is_onward x = weakened_construct_decides (λ i p. p) (λ a. from_later_is_from_earlier) x
+  pub strict_is_total_onward : {A : Type 0} {c : Construct A} → TotalConsuming t s c → TotalOnward t s c
+  strict_is_total_onward x = weakened_construct_decides (λ i p. p) (λ a. from_later_is_from_earlier) x
 
 -- ---- lists
 
@@ -192,5 +193,5 @@ module _ {A S B : Type 0} (t : List ℕ) (next : S → Construct (More A S)) (ad
       list_is_total_onward_by_item s r l (λ r. list_is_total_onward m (s + 1) (omega arith) (omega arith) r)
 
   -- a list whose items go on, by induction on the bytes that are left
-  pub many_is_onward : (s : ℕ) → low ≤ s → (r : S) → TotalOnward t s (many next add none r)
-  many_is_onward s l r = list_is_total_onward (length t + 1) s l (omega arith) r
+  pub many_is_total_onward : (s : ℕ) → low ≤ s → (r : S) → TotalOnward t s (many next add none r)
+  many_is_total_onward s l r = list_is_total_onward (length t + 1) s l (omega arith) r

@@ -22,22 +22,26 @@ use Rattle.fluent_syntax_grammar.specs.Variants.{more_variants}
 use Rattle.fluent_syntax_tree.specs.declared.edition.Edition.{Edition}
 use Rattle.fluent_syntax_tree.specs.declared.spans.Span.{Span}
 use Rattle.fluent_syntax_grammar.proofs.Functional.{longest_run_is_functional}
-use Rattle.fluent_syntax_grammar.proofs.HoareTriple.{yields_value}
-use Rattle.fluent_syntax_grammar.proofs.Facts.{has_inside, right_true}
+use Rattle.fluent_syntax_grammar.proofs.HoareTriple.{yields_reads_its_value_in_place}
+use Rattle.fluent_syntax_grammar.proofs.Facts.{byte_that_passes_is_in_text, and_gives_right}
 use Rattle.fluent_syntax_grammar.proofs.SoundStrings.{InText}
 use Rattle.fluent_syntax_grammar.proofs.SoundLines.{family_is_sound}
-use Rattle.fluent_syntax_grammar.proofs.Boundaries.{text_cuts}
+use Rattle.fluent_syntax_grammar.proofs.Boundaries.{places_in_text_are_boundaries}
 use Rattle.fluent_syntax_grammar.proofs.Total.{From, Decides, TotalOnward, TotalConsumingItem, bind_decides}
 use Rattle.fluent_syntax_grammar.proofs.Total.{weakened_construct_decides, yields_decides, fails_decides, skip_decides}
-use Rattle.fluent_syntax_grammar.proofs.Total.{peek_decides, branch_on_decides, any_branch_decides, yields_is_onward}
-use Rattle.fluent_syntax_grammar.proofs.Total.{here_is_onward, strict_is_onward, more_on, more_earlier, none_past_end}
-use Rattle.fluent_syntax_grammar.proofs.Total.{many_is_onward}
-use Rattle.fluent_syntax_grammar.proofs.TotalWords.{eol_decides, blank_is_total_onward, blank_block_is_onward}
-use Rattle.fluent_syntax_grammar.proofs.TotalWords.{inline_blank_is_onward, optional_is_onward, optional_decides}
-use Rattle.fluent_syntax_grammar.proofs.TotalWords.{on_sound, token_is_consuming, byte_run_is_total}
-use Rattle.fluent_syntax_grammar.proofs.TotalRules.{TotalOnwardFamily, key_is_onward, arrow_is_onward, ending_is_onward}
+use Rattle.fluent_syntax_grammar.proofs.Total.{peek_decides, branch_on_decides, any_branch_decides}
+use Rattle.fluent_syntax_grammar.proofs.Total.{yields_is_total_onward}
+use Rattle.fluent_syntax_grammar.proofs.Total.{here_is_total_onward, strict_is_total_onward, more_on, more_earlier}
+use Rattle.fluent_syntax_grammar.proofs.Total.{none_past_end}
+use Rattle.fluent_syntax_grammar.proofs.Total.{many_is_total_onward}
+use Rattle.fluent_syntax_grammar.proofs.TotalWords.{eol_decides, blank_is_total_onward, blank_block_is_total_onward}
+use Rattle.fluent_syntax_grammar.proofs.TotalWords.{inline_blank_is_total_onward, optional_is_total_onward}
+use Rattle.fluent_syntax_grammar.proofs.TotalWords.{optional_decides}
+use Rattle.fluent_syntax_grammar.proofs.TotalWords.{sound_construct_goes_onward, token_is_consuming, byte_run_is_total}
+use Rattle.fluent_syntax_grammar.proofs.TotalRules.{TotalOnwardFamily, key_is_total_onward, arrow_is_total_onward}
+use Rattle.fluent_syntax_grammar.proofs.TotalRules.{ending_is_total_onward}
 use Rattle.fluent_syntax_grammar.proofs.TotalRules.{inline_is_consuming}
-use Rattle.fluent_syntax_grammar.proofs.TotalRules.{arguments_are_onward, pieces_are_onward}
+use Rattle.fluent_syntax_grammar.proofs.TotalRules.{arguments_are_total_onward, pieces_are_total_onward}
 use Rattle.fluent_syntax_grammar.proofs.TotalRules.{read_pieces_end_after_piece, ending_after_pieces_goes_on}
 
 -- from a place on, over a family that has outcomes from there on
@@ -46,11 +50,11 @@ module _ (edition : Edition) (t : List ℕ) (R : Family) (low : ℕ) (h : (s : �
 
   line_is_total_onward : (s : ℕ) → low ≤ s + 1 → TotalOnward t s (line t R)
   line_is_total_onward s l =
-      bind_decides here_is_onward
-      (λ start. bind_decides (inline_blank_is_onward t)
-      (λ u. bind_decides here_is_onward
-      (λ first. bind_decides (pieces_are_onward t R low h s l) (λ ps. bind_decides (ending_is_onward t)
-      (λ e. yields_is_onward)))))
+      bind_decides here_is_total_onward
+      (λ start. bind_decides (inline_blank_is_total_onward t)
+      (λ u. bind_decides here_is_total_onward
+      (λ first. bind_decides (pieces_are_total_onward t R low h s l) (λ ps. bind_decides (ending_is_total_onward t)
+      (λ e. yields_is_total_onward)))))
 
   line_with_byte_goes_on : (s : ℕ) → low ≤ s + 1 → (i j k b : ℕ) (x : Line) → From t s i → InlineBlank t i k →
       slice_get t k ≡ Some b → line t R i (Read x j) → From t (s + 1) j
@@ -65,13 +69,13 @@ module _ (edition : Edition) (t : List ℕ) (R : Family) (low : ℕ) (h : (s : �
       let q = read_pieces_end_after_piece t R low h s l f m b ps
       (record { late = omega arith; in_text = inside }) at_f y in
       let r = ending_after_pieces_goes_on t R low h s l m n end q z in
-      let same = yields_value _ x n j g in
+      let same = yields_reads_its_value_in_place _ x n j g in
       subst (λ j. From t (s + 1) j) same.1 r
 
   own_line_has_outcome : (s : ℕ) → low ≤ s + 1 → (i : ℕ) → From t s i → (o : Outcome (More Line (Unit {0}))) ×
       (line t R >>= λ x. yields (item x tt)) i o
   own_line_has_outcome s l i p =
-      (bind_decides (line_is_total_onward s l) (λ x. yields_is_onward {a = item x tt})).has i p
+      (bind_decides (line_is_total_onward s l) (λ x. yields_is_total_onward {a = item x tt})).has i p
 
   next_line_has_outcome_by_owner : (s : ℕ) → low ≤ s + 1 → (i k b : ℕ) (own : Bool) → From t s i → InlineBlank t i k →
       slice_get t k ≡ Some b → belongs t (nat_lt i k) k ≡ own → (o : Outcome (More Line (Unit {0}))) × next_line t R i o
@@ -92,7 +96,7 @@ module _ (edition : Edition) (t : List ℕ) (R : Family) (low : ℕ) (h : (s : �
       record { late = omega arith; in_text = (byte_run_is_total t is_space).in_text i j p.in_text w }
   next_line_goes_on s l i j x p (other_line w e f) = p
   next_line_goes_on s l i j x p (own_line {k = k} {b = b} w e f (goes_on {j = m} {a = y} z g)) =
-      let same = yields_value (item y tt) x m j g in
+      let same = yields_reads_its_value_in_place (item y tt) x m j g in
       subst (λ x. more_on t s x j) same.0
       (subst (λ j. From t (s + 1) j) same.1 (line_with_byte_goes_on s l i m k b y p w e z))
 
@@ -103,23 +107,26 @@ module _ (edition : Edition) (t : List ℕ) (R : Family) (low : ℕ) (h : (s : �
     on = record { on_read = next_line_goes_on s l; on_refused = λ i from to k p x. tt };
   }
 
-  lines_are_onward : (s : ℕ) → low ≤ s + 1 → TotalOnward t s (more_lines t R)
-  lines_are_onward s l =
-      many_is_onward t (λ u. next_line t R) _ _ s (λ m k u. item_line_is_consuming m (omega arith)) s (omega arith) tt
+  lines_are_total_onward : (s : ℕ) → low ≤ s + 1 → TotalOnward t s (more_lines t R)
+  lines_are_total_onward s l =
+      many_is_total_onward t (λ u. next_line t R) _ _ s (λ m k u. item_line_is_consuming m (omega arith)) s
+      (omega arith) tt
 
   -- ---- patterns and variants
 
   layout_below_is_total_onward : (s : ℕ) → low ≤ s + 1 →
       TotalOnward {A = Layout} t s
       (blank_block t >>= λ u. more_lines t R >>= λ ls. yields (record { opening = None; lines = ls }))
-  layout_below_is_total_onward s l = bind_decides (blank_block_is_onward t) (λ u. bind_decides (lines_are_onward s l)
-      (λ ls. yields_is_onward))
+  layout_below_is_total_onward s l =
+      bind_decides (blank_block_is_total_onward t) (λ u. bind_decides (lines_are_total_onward s l)
+      (λ ls. yields_is_total_onward))
 
   layout_without_eol_is_total_onward : (s : ℕ) → low ≤ s + 1 → TotalOnward t s (layout_at t R None)
   layout_without_eol_is_total_onward s l =
-      bind_decides here_is_onward
-      (λ start. bind_decides (pieces_are_onward t R low h s l)
-      (λ ps. bind_decides (ending_is_onward t) (λ e. bind_decides (lines_are_onward s l) (λ ls. yields_is_onward))))
+      bind_decides here_is_total_onward
+      (λ start. bind_decides (pieces_are_total_onward t R low h s l)
+      (λ ps. bind_decides (ending_is_total_onward t)
+      (λ e. bind_decides (lines_are_total_onward s l) (λ ls. yields_is_total_onward))))
 
   layout_decides : (s : ℕ) → low ≤ s + 1 → (o : Option ℕ) →
       Decides (λ i. From t s i × (after_eol t i ≡ o)) (layout_at t R o) (λ y. From t s)
@@ -127,25 +134,27 @@ module _ (edition : Edition) (t : List ℕ) (R : Family) (low : ℕ) (h : (s : �
       weakened_construct_decides (λ i p. p.0) (λ a j x. x) (layout_without_eol_is_total_onward s l)
   layout_decides s l (Some k) = bind_decides (eol_decides t s k) (λ u. layout_below_is_total_onward s l)
 
-  layout_is_onward : (s : ℕ) → low ≤ s + 1 → TotalOnward t s (layout t R)
-  layout_is_onward s l = bind_decides (inline_blank_is_onward t) (λ u. peek_decides (layout_decides s l))
+  layout_is_total_onward : (s : ℕ) → low ≤ s + 1 → TotalOnward t s (layout t R)
+  layout_is_total_onward s l = bind_decides (inline_blank_is_total_onward t) (λ u. peek_decides (layout_decides s l))
 
-  pub pattern_is_onward : (s : ℕ) → low ≤ s + 1 → TotalOnward t s (pattern edition t R)
-  pattern_is_onward s l = bind_decides (layout_is_onward s l) (λ y. yields_is_onward)
+  pub pattern_of_family_is_total_onward : (s : ℕ) → low ≤ s + 1 → TotalOnward t s (pattern edition t R)
+  pattern_of_family_is_total_onward s l = bind_decides (layout_is_total_onward s l) (λ y. yields_is_total_onward)
 
-  variant_of_is_onward : (s : ℕ) (starred star : Bool) (key : KeyTree Span) (p : Option (PatternTree Span)) →
+  variant_of_is_total_onward : (s : ℕ) (starred star : Bool) (key : KeyTree Span) (p : Option (PatternTree Span)) →
       TotalOnward t s (variant_of t starred star key p)
-  variant_of_is_onward s starred star key None = fails_decides
-  variant_of_is_onward s starred star key (Some p) = bind_decides (blank_is_total_onward t) (λ u. yields_is_onward)
+  variant_of_is_total_onward s starred star key None = fails_decides
+  variant_of_is_total_onward s starred star key (Some p) =
+      bind_decides (blank_is_total_onward t) (λ u. yields_is_total_onward)
 
-  variant_after_is_onward : (s : ℕ) → low ≤ s + 1 → (starred star : Bool) →
+  variant_after_is_total_onward : (s : ℕ) → low ≤ s + 1 → (starred star : Bool) →
       TotalOnward t s (variant_after edition t R starred star)
-  variant_after_is_onward s l starred star =
+  variant_after_is_total_onward s l starred star =
       bind_decides (blank_is_total_onward t)
-      (λ u. bind_decides (key_is_onward t)
+      (λ u. bind_decides (key_is_total_onward t)
       (λ key. bind_decides (blank_is_total_onward t)
-      (λ u. bind_decides (strict_is_onward (token_is_consuming t 93))
-      (λ u. bind_decides (pattern_is_onward s l) (λ value. variant_of_is_onward s starred star key value)))))
+      (λ u. bind_decides (strict_is_total_onward (token_is_consuming t 93))
+      (λ u. bind_decides (pattern_of_family_is_total_onward s l)
+      (λ value. variant_of_is_total_onward s starred star key value)))))
 
   variants_end_decides : (s : ℕ) (starred star : Bool) →
       Decides (From t s) (variants_end edition starred star) (more_on {S = Bool} t s)
@@ -162,21 +171,23 @@ module _ (edition : Edition) (t : List ℕ) (R : Family) (low : ℕ) (h : (s : �
   item_bracket_is_consuming s l starred star =
       bind_decides (optional_decides t s 91) (λ bracket. branch_on_decides
       (λ e. weakened_construct_decides (λ i p. p.past e) (more_earlier t s)
-      (variant_after_is_onward (s + 1) (omega arith) starred star))
+      (variant_after_is_total_onward (s + 1) (omega arith) starred star))
       (λ e. weakened_construct_decides (λ i p. p.at) (λ a j x. x) (variants_end_decides s starred star)))
 
-  only_star_is_onward : (s : ℕ) (starred star : Bool) → TotalOnward t s (only_star starred star)
-  only_star_is_onward s starred star = any_branch_decides fails_decides yields_is_onward
+  only_star_is_total_onward : (s : ℕ) (starred star : Bool) → TotalOnward t s (only_star starred star)
+  only_star_is_total_onward s starred star = any_branch_decides fails_decides yields_is_total_onward
 
   item_variant_is_consuming : (s : ℕ) → low ≤ s + 1 → (starred : Bool) →
       TotalConsumingItem t s (next_variant edition t R starred)
   item_variant_is_consuming s l starred =
-      bind_decides (optional_is_onward t 42)
-      (λ star. bind_decides (only_star_is_onward s starred star) (λ u. item_bracket_is_consuming s l starred star))
+      bind_decides (optional_is_total_onward t 42)
+      (λ star. bind_decides (only_star_is_total_onward s starred star)
+      (λ u. item_bracket_is_consuming s l starred star))
 
-  variants_are_onward : (s : ℕ) → low ≤ s + 1 → (starred : Bool) → TotalOnward t s (more_variants edition t R starred)
-  variants_are_onward s l starred =
-      many_is_onward t (next_variant edition t R) _ _ s (λ m k starred. item_variant_is_consuming m (omega arith)
+  variants_are_total_onward : (s : ℕ) → low ≤ s + 1 → (starred : Bool) →
+      TotalOnward t s (more_variants edition t R starred)
+  variants_are_total_onward s l starred =
+      many_is_total_onward t (next_variant edition t R) _ _ s (λ m k starred. item_variant_is_consuming m (omega arith)
       starred) s
       (omega arith)
       starred
@@ -192,8 +203,8 @@ module _ (edition : Edition) (t : List ℕ) (R : Family) (low : ℕ) (h : (s : �
       let late = q.late in
       let by = w.by in
       let l =
-      has_inside (λ c. c == 62) t (i + 1)
-      (right_true (has_byte t 45 i) (has_byte t 62 (i + 1)) p.1) in
+      byte_that_passes_is_in_text (λ c. c == 62) t (i + 1)
+      (and_gives_right (has_byte t 45 i) (has_byte t 62 (i + 1)) p.1) in
       record { late = omega arith; in_text = omega arith }
 
   variants_after_arrow_are_total_onward : (s : ℕ) → low ≤ s + 1 →
@@ -201,9 +212,9 @@ module _ (edition : Edition) (t : List ℕ) (R : Family) (low : ℕ) (h : (s : �
       (inline_blank t >>= λ u. peek (after_eol t) arrow_line_end >>= λ u. blank t >>= λ u.
       more_variants edition t R false)
   variants_after_arrow_are_total_onward s l =
-      bind_decides (inline_blank_is_onward t)
-      (λ u. bind_decides (arrow_is_onward t) (λ u. bind_decides (blank_is_total_onward t)
-      (λ u. variants_are_onward s l false)))
+      bind_decides (inline_blank_is_total_onward t)
+      (λ u. bind_decides (arrow_is_total_onward t) (λ u. bind_decides (blank_is_total_onward t)
+      (λ u. variants_are_total_onward s l false)))
 
   variants_decides : (s : ℕ) → low ≤ s + 1 →
       Decides (AtArrow s true) (variants_of_select edition t R) (λ vs. From t s)
@@ -218,7 +229,7 @@ module _ (edition : Edition) (t : List ℕ) (R : Family) (low : ℕ) (h : (s : �
 
   expression_without_arrow_is_total_onward : (s : ℕ) (e : InlineTree Span) →
       TotalOnward t s (branch_on (is_term_attribute e) (fails TermAttributeAsPlaceable) (yields (inline e)))
-  expression_without_arrow_is_total_onward s e = any_branch_decides fails_decides yields_is_onward
+  expression_without_arrow_is_total_onward s e = any_branch_decides fails_decides yields_is_total_onward
 
   abbrev AfterBlank : InlineTree Span → Bool → Construct (ExpressionTree Span)
   AfterBlank e arrow =
@@ -232,9 +243,9 @@ module _ (edition : Edition) (t : List ℕ) (R : Family) (low : ℕ) (h : (s : �
       (λ y. weakened_construct_decides (λ i p. (p.0, p.1 ∙ y)) (λ a j x. x) (select_decides s l e (selector_fault e)))
       (λ y. weakened_construct_decides (λ i p. p.0) (λ a j x. x) (expression_without_arrow_is_total_onward s e)))
 
-  pub expression_is_onward : (s : ℕ) → low ≤ s + 1 → TotalOnward t s (expression edition t R)
-  expression_is_onward s l =
-      bind_decides (strict_is_onward (inline_is_consuming t R low h s l))
+  pub expression_is_total_onward : (s : ℕ) → low ≤ s + 1 → TotalOnward t s (expression edition t R)
+  expression_is_total_onward s l =
+      bind_decides (strict_is_total_onward (inline_is_consuming t R low h s l))
       (λ e. bind_decides (blank_is_total_onward t) (λ u. expression_by_arrow_is_total_onward s l e))
 
 -- ---- the family
@@ -247,8 +258,8 @@ module _ (edition : Edition) (t : List ℕ) where
       TotalOnwardFamily t s (within edition t (suc n))
   unfolding within
   next_depth_is_total_onward n s h = record {
-    expression = expression_is_onward edition t (within edition t n) (s + 1) h s (omega arith);
-    argument_list = arguments_are_onward t (within edition t n) (s + 1) h s (omega arith) [];
+    expression = expression_is_total_onward edition t (within edition t n) (s + 1) h s (omega arith);
+    argument_list = arguments_are_total_onward t (within edition t n) (s + 1) h s (omega arith) [];
   }
 
   -- What nests no deeper than a number has an outcome at each place after which no more bytes are left than the
@@ -262,7 +273,7 @@ module _ (edition : Edition) (t : List ℕ) where
   pub pattern_within_depth_is_total_onward : (n s : ℕ) → length t ≤ s + n →
       TotalOnward t s (pattern edition t (within edition t n))
   pattern_within_depth_is_total_onward n s l =
-      pattern_is_onward edition t (within edition t n) (s + 1)
+      pattern_of_family_is_total_onward edition t (within edition t n) (s + 1)
       (λ m k. deep_enough_family_is_total_onward n m (omega arith)) s (omega arith)
 
   -- what nests has an outcome at each place of the text
@@ -270,19 +281,20 @@ module _ (edition : Edition) (t : List ℕ) where
   unfolding family
   family_is_onward s =
       let w = deep_enough_family_is_total_onward (length t + 1) s (omega arith) in
-      let u = family_is_sound edition t (InText t) (text_cuts t) in
+      let u = family_is_sound edition t (InText t) (places_in_text_are_boundaries t) in
       record {
         expression = record {
           has = λ i p. (let x = w.expression.has i p in (x.0, (length t + 1, x.1)));
-          on = on_sound (u.expression s);
+          on = sound_construct_goes_onward (u.expression s);
         };
         argument_list = record {
           has = λ i p. (let x = w.argument_list.has i p in (x.0, (length t + 1, x.1)));
-          on = on_sound (u.argument_list s);
+          on = sound_construct_goes_onward (u.argument_list s);
         };
       }
 
   -- a pattern has an outcome at each place of the text
   pub pattern_is_total_onward : {s : ℕ} → TotalOnward t s (grammar.pattern edition t)
-  pattern_is_total_onward {s = s} = pattern_is_onward edition t (family edition t) 0 (λ s l. family_is_onward s) s
+  pattern_is_total_onward {s = s} =
+      pattern_of_family_is_total_onward edition t (family edition t) 0 (λ s l. family_is_onward s) s
       (omega arith)

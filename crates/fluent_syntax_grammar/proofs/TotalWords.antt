@@ -16,26 +16,29 @@ use Rattle.fluent_syntax_grammar.specs.Lines.{is_run_place}
 use Rattle.fluent_syntax_grammar.proofs.HoareTriple.{HoareTriple, holds_weaker}
 use Rattle.fluent_syntax_grammar.proofs.Cuts.{blank_is_ascii, line_place_is_inside_text, run_place_is_inside_text}
 use Rattle.fluent_syntax_grammar.proofs.Cuts.{eol_goes_on, line_end_is_in_text}
-use Rattle.fluent_syntax_grammar.proofs.Cuts.{block_goes_on, block_place}
+use Rattle.fluent_syntax_grammar.proofs.Cuts.{block_goes_on, end_of_block_is_place}
 use Rattle.fluent_syntax_grammar.proofs.Sound.{Sound}
-use Rattle.fluent_syntax_grammar.proofs.SoundStrings.{InText, unit_holds, units_are_sound}
+use Rattle.fluent_syntax_grammar.proofs.SoundStrings.{InText, string_unit_is_sound, units_are_sound}
 use Rattle.fluent_syntax_grammar.proofs.SoundEntries.{identifier_advances}
-use Rattle.fluent_syntax_grammar.proofs.Boundaries.{text_cuts}
+use Rattle.fluent_syntax_grammar.proofs.Boundaries.{places_in_text_are_boundaries}
 use Rattle.fluent_syntax_grammar.proofs.Stretches.{run_ends_here, run_goes_on, hex_digits_have_outcome}
 use Rattle.fluent_syntax_grammar.proofs.Total.{From, AnyFault, Decides, TotalOnward, TotalConsuming, IsTotalRelation}
 use Rattle.fluent_syntax_grammar.proofs.Total.{bind_decides, weakened_construct_decides, yields_decides, fails_decides}
 use Rattle.fluent_syntax_grammar.proofs.Total.{skip_decides, peek_decides, any_peek_decides, branch_on_decides}
-use Rattle.fluent_syntax_grammar.proofs.Total.{any_branch_decides, yields_is_onward, here_is_onward, skip_is_onward}
-use Rattle.fluent_syntax_grammar.proofs.Total.{strict_is_onward}
-use Rattle.fluent_syntax_grammar.proofs.Facts.{at_most_is_less_or_same, longest_run_in_text, has_inside}
+use Rattle.fluent_syntax_grammar.proofs.Total.{any_branch_decides, yields_is_total_onward, here_is_total_onward}
+use Rattle.fluent_syntax_grammar.proofs.Total.{skip_is_total_onward}
+use Rattle.fluent_syntax_grammar.proofs.Total.{strict_is_total_onward}
+use Rattle.fluent_syntax_grammar.proofs.Facts.{at_most_is_less_or_same, longest_run_ends_in_bounds}
+use Rattle.fluent_syntax_grammar.proofs.Facts.{byte_that_passes_is_in_text}
 
 false_is_not_true : {X : Type 0} → false ≡ true → X
 false_is_not_true e = cc
 
 -- what is sound does not go back
-pub on_sound : {A : Type 0} {t : List ℕ} {s : ℕ} {c : Construct A} {Good : A → Type 0} → Sound t (InText t) s c Good →
+pub sound_construct_goes_onward : {A : Type 0} {t : List ℕ} {s : ℕ} {c : Construct A} {Good : A → Type 0} →
+    Sound t (InText t) s c Good →
     HoareTriple (From t s) c (λ a j. From t s j) AnyFault
-on_sound x =
+sound_construct_goes_onward x =
     holds_weaker (λ i p. record { late = p.late; place = p.in_text })
     (λ a j e. record { late = e.late; in_text = e.place }) (λ k from to f. tt) x.holds
 
@@ -62,14 +65,14 @@ module _ (t : List ℕ) where
   longest_run_is_total test inside = record {
     exists = λ i l. longest_run_exists test inside (length t) i (omega arith);
     forward = λ i j s. s.forward;
-    in_text = λ i j l s. longest_run_in_text (length t) test inside i j l s;
+    in_text = λ i j l s. longest_run_ends_in_bounds (length t) test inside i j l s;
   }
 
   blank_place_is_inside_text : (k : ℕ) → is_blank_place t k ≡ true → k < length t
   blank_place_is_inside_text k e = let a = blank_is_ascii t k e in slice_get_within t k a.byte a.in_place
 
   pub byte_run_is_total : (set : ℕ → Bool) → IsTotalRelation t (ByteRun t set)
-  byte_run_is_total set = longest_run_is_total (has t set) (has_inside set t)
+  byte_run_is_total set = longest_run_is_total (has t set) (byte_that_passes_is_in_text set t)
 
   pub text_run_is_total : IsTotalRelation t (LongestRun (is_run_place t))
   text_run_is_total = longest_run_is_total (is_run_place t) (run_place_is_inside_text t)
@@ -95,19 +98,19 @@ module _ (t : List ℕ) where
   blank_block_is_total = record {
     exists = λ i l. block_exists (length t) i (omega arith) l;
     forward = λ i j b. block_goes_on t i j b;
-    in_text = λ i j l b. block_place t (InText t) (text_cuts t) i j l b;
+    in_text = λ i j l b. end_of_block_is_place t (InText t) (places_in_text_are_boundaries t) i j l b;
   }
 
   -- ---- marks
 
-  pub inline_blank_is_onward : {s : ℕ} → TotalOnward t s (inline_blank t)
-  inline_blank_is_onward = skip_is_onward (byte_run_is_total is_space)
+  pub inline_blank_is_total_onward : {s : ℕ} → TotalOnward t s (inline_blank t)
+  inline_blank_is_total_onward = skip_is_total_onward (byte_run_is_total is_space)
 
   pub blank_is_total_onward : {s : ℕ} → TotalOnward t s (blank t)
-  blank_is_total_onward = skip_is_onward (longest_run_is_total (is_blank_place t) blank_place_is_inside_text)
+  blank_is_total_onward = skip_is_total_onward (longest_run_is_total (is_blank_place t) blank_place_is_inside_text)
 
-  pub blank_block_is_onward : {s : ℕ} → TotalOnward t s (blank_block t)
-  blank_block_is_onward = skip_is_onward blank_block_is_total
+  pub blank_block_is_total_onward : {s : ℕ} → TotalOnward t s (blank_block t)
+  blank_block_is_total_onward = skip_is_total_onward blank_block_is_total
 
   -- after an optional byte that was there, the place is after it
   pub record AfterByte (s : ℕ) (found : Bool) (j : ℕ) : Type 0 where
@@ -119,14 +122,15 @@ module _ (t : List ℕ) where
       (λ e. bind_decides {mid = λ u. From t (s + 1)}
       (skip_decides (λ i p. (i + 1, record { by = refl }))
       (λ i j p w. let q = p.0 in let late = q.late in let by = w.by in
-      let l = has_inside (λ c. c == b) t i (p.1 ∙ e) in record { late = omega arith; in_text = omega arith }))
+      let l = byte_that_passes_is_in_text (λ c. c == b) t i (p.1 ∙ e) in
+      record { late = omega arith; in_text = omega arith }))
       (λ u. yields_decides
       (λ i p. let late = p.late in
       record { at = record { late = omega arith; in_text = p.in_text }; past = λ yes. p })))
       (λ e. yields_decides (λ i p. record { at = p.0; past = λ yes. false_is_not_true yes })))
 
-  pub optional_is_onward : {s : ℕ} (b : ℕ) → TotalOnward t s (optional t b)
-  optional_is_onward {s = s} b = weakened_construct_decides (λ i p. p) (λ a j x. x.at) (optional_decides s b)
+  pub optional_is_total_onward : {s : ℕ} (b : ℕ) → TotalOnward t s (optional t b)
+  optional_is_total_onward {s = s} b = weakened_construct_decides (λ i p. p) (λ a j x. x.at) (optional_decides s b)
 
   pub token_is_consuming : {s : ℕ} (b : ℕ) → TotalConsuming t s (token t b)
   token_is_consuming {s = s} b =
@@ -145,17 +149,18 @@ module _ (t : List ℕ) where
   past_eol_decides s None = yields_decides (λ i p. p.0)
   past_eol_decides s (Some k) = eol_decides s k
 
-  pub optional_eol_is_onward : {s : ℕ} → TotalOnward t s (optional_eol t)
-  optional_eol_is_onward {s = s} = peek_decides (past_eol_decides s)
+  pub optional_eol_is_total_onward : {s : ℕ} → TotalOnward t s (optional_eol t)
+  optional_eol_is_total_onward {s = s} = peek_decides (past_eol_decides s)
 
-  pub spanned_is_onward : {s start : ℕ} → TotalOnward t s (spanned start)
-  spanned_is_onward = bind_decides here_is_onward (λ end. yields_is_onward)
+  pub spanned_is_total_onward : {s start : ℕ} → TotalOnward t s (spanned start)
+  spanned_is_total_onward = bind_decides here_is_total_onward (λ end. yields_is_total_onward)
 
-  pub rest_of_line_is_onward : {s : ℕ} → TotalOnward t s (rest_of_line t)
-  rest_of_line_is_onward =
-      bind_decides here_is_onward
-      (λ start. bind_decides (skip_is_onward (longest_run_is_total (is_line_place t) (line_place_is_inside_text t)))
-      (λ u. spanned_is_onward))
+  pub rest_of_line_is_total_onward : {s : ℕ} → TotalOnward t s (rest_of_line t)
+  rest_of_line_is_total_onward =
+      bind_decides here_is_total_onward
+      (λ start. bind_decides
+      (skip_is_total_onward (longest_run_is_total (is_line_place t) (line_place_is_inside_text t)))
+      (λ u. spanned_is_total_onward))
 
   byte_run_in_set_goes_on : (set : ℕ → Bool) (i j : ℕ) → has t set i ≡ true → ByteRun t set i j → i < j
   byte_run_in_set_goes_on set i j e w =
@@ -169,20 +174,22 @@ module _ (t : List ℕ) where
       let m = (byte_run_is_total is_digit).in_text i j q.in_text w in record { late = omega arith; in_text = m }))
       (λ e. fails_decides))
 
-  identifier_is_onward : {s : ℕ} → TotalOnward t s (identifier t)
-  identifier_is_onward =
-      bind_decides here_is_onward
-      (λ start. bind_decides (any_peek_decides (λ letter. yields_is_onward))
+  identifier_is_total_onward : {s : ℕ} → TotalOnward t s (identifier t)
+  identifier_is_total_onward =
+      bind_decides here_is_total_onward
+      (λ start. bind_decides (any_peek_decides (λ letter. yields_is_total_onward))
       (λ letter. any_branch_decides
-      (bind_decides (skip_is_onward (byte_run_is_total is_name_byte)) (λ u. spanned_is_onward))
+      (bind_decides (skip_is_total_onward (byte_run_is_total is_name_byte)) (λ u. spanned_is_total_onward))
       fails_decides))
 
   pub identifier_is_consuming : {s : ℕ} → TotalConsuming t s (identifier t)
   identifier_is_consuming {s = s} = record {
-    has = identifier_is_onward.has;
+    has = identifier_is_total_onward.has;
     on = record {
       on_read =
-          λ i j a p x. (let q = identifier_advances t (InText t) (text_cuts t) i j a p.in_text x in let late = p.late in
+          λ i j a p x.
+          (let q = identifier_advances t (InText t) (places_in_text_are_boundaries t) i j a p.in_text x in
+          let late = p.late in
           let on = q.late in record { late = omega arith; in_text = q.place });
       on_refused = λ i from to k p x. tt;
     };
@@ -190,11 +197,11 @@ module _ (t : List ℕ) where
 
   pub number_is_consuming : {s : ℕ} → TotalConsuming t s (number t)
   number_is_consuming =
-      bind_decides here_is_onward
-      (λ start. bind_decides (optional_is_onward 45)
-      (λ x. bind_decides digits_are_consuming (λ u. bind_decides (optional_is_onward 46) (λ point.
-      bind_decides (any_branch_decides (strict_is_onward digits_are_consuming) yields_is_onward)
-      (λ u. spanned_is_onward)))))
+      bind_decides here_is_total_onward
+      (λ start. bind_decides (optional_is_total_onward 45)
+      (λ x. bind_decides digits_are_consuming (λ u. bind_decides (optional_is_total_onward 46) (λ point.
+      bind_decides (any_branch_decides (strict_is_total_onward digits_are_consuming) yields_is_total_onward)
+      (λ u. spanned_is_total_onward)))))
 
   -- ---- strings
 
@@ -231,7 +238,8 @@ module _ (t : List ℕ) where
   string_unit_ends_in_text : (i j : ℕ) → i ≤ length t → has_byte t 34 i ≡ false →
       string_unit t (slice_get t i) i (Read tt j) → j ≤ length t
   string_unit_ends_in_text i j l e x =
-      ((unit_holds t i (slice_get t i)).on_read i j tt (record { late = omega arith; place = l }, refl, e) x).place
+      ((string_unit_is_sound t i (slice_get t i)).on_read i j tt (record { late = omega arith; place = l }, refl, e)
+      x).place
 
   string_units_have_outcome_after_unit : (i : ℕ) → i ≤ length t → has_byte t 34 i ≡ false →
       ((j : ℕ) → i < j → j ≤ length t → (o : Outcome (Unit {0})) × string_units t j o) →
@@ -255,17 +263,17 @@ module _ (t : List ℕ) where
   string_units_have_outcome (suc m) i a l = string_units_have_outcome_by_quote i l (has_byte t 34 i) refl
       (λ j b c. string_units_have_outcome m j (omega arith) c)
 
-  units_are_onward : {s : ℕ} → TotalOnward t s (string_units t)
-  units_are_onward {s = s} =
+  units_are_total_onward : {s : ℕ} → TotalOnward t s (string_units t)
+  units_are_total_onward {s = s} =
       record {
         has = λ i p. string_units_have_outcome (length t) i (omega arith) p.in_text;
-        on = on_sound (units_are_sound t (InText t) (text_cuts t) {s = s});
+        on = sound_construct_goes_onward (units_are_sound t (InText t) (places_in_text_are_boundaries t) {s = s});
       }
 
   pub string_is_consuming : {s : ℕ} → TotalConsuming t s (string_literal t)
   string_is_consuming =
       bind_decides (token_is_consuming 34)
-      (λ u. bind_decides here_is_onward
-      (λ start. bind_decides units_are_onward
-      (λ u. bind_decides spanned_is_onward (λ value. bind_decides (strict_is_onward (token_is_consuming 34))
-      (λ u. yields_is_onward)))))
+      (λ u. bind_decides here_is_total_onward
+      (λ start. bind_decides units_are_total_onward
+      (λ u. bind_decides spanned_is_total_onward (λ value. bind_decides (strict_is_total_onward (token_is_consuming 34))
+      (λ u. yields_is_total_onward)))))

@@ -195,14 +195,20 @@ module _ (t : List ℕ) (R : Family) (Rs : ℕ → Family) (h : IsUnionFamily R 
       (λ n. line t (Rs n) >>= λ l. yields (item l tt))
   own_line_is_union = search (unions, line_is_union) depth 30
 
-  line_found : (i : ℕ) (o : Outcome (More Line (Unit {0}))) → next_line t R i o → (n : ℕ) × next_line t (Rs n) i o
-  line_found i o (no_byte a b) = (0, no_byte a b)
-  line_found i o (other_line a b c) = (0, other_line a b c)
-  line_found i o (own_line a b c d) = let m = own_line_is_union.found i o d in (m.0, own_line a b c m.1)
+  line_of_union_is_of_some_family : (i : ℕ) (o : Outcome (More Line (Unit {0}))) → next_line t R i o → (n : ℕ) ×
+      next_line t (Rs n) i o
+  line_of_union_is_of_some_family i o (no_byte a b) = (0, no_byte a b)
+  line_of_union_is_of_some_family i o (other_line a b c) = (0, other_line a b c)
+  line_of_union_is_of_some_family i o (own_line a b c d) = let m = own_line_is_union.found i o d in
+      (m.0, own_line a b c m.1)
 
   next_line_is_union : IsUnion (next_line t R) (λ n. next_line t (Rs n))
   next_line_is_union =
-      record { grows = λ m n l. next_line_is_included t (Rs m) (Rs n) (h.grows m n l); found = line_found }
+      record {
+        grows = λ m n l. next_line_is_included t (Rs m) (Rs n) (h.grows m n l);
+        found =
+            line_of_union_is_of_some_family;
+      }
 
   pub more_lines_are_union : IsUnion (more_lines t R) (λ n. more_lines t (Rs n))
   more_lines_are_union = many_is_union (λ u. next_line_is_union)

@@ -24,15 +24,16 @@ use Rattle.fluent_syntax_grammar.proofs.OneTiling as tilings
 use Rattle.fluent_syntax_grammar.proofs.SoundStrings.{InText}
 use Rattle.fluent_syntax_grammar.proofs.SoundTiling.{IsTileWellFormed, tiles_are_well_formed}
 use Rattle.fluent_syntax_grammar.proofs.SoundTiling.{runtime_tiles_are_well_formed}
-use Rattle.fluent_syntax_grammar.proofs.Boundaries.{text_cuts}
+use Rattle.fluent_syntax_grammar.proofs.Boundaries.{places_in_text_are_boundaries}
 use Rattle.fluent_syntax_grammar.proofs.Aligned.{aligned}
-use Rattle.fluent_syntax_grammar.proofs.Runtime.{bare_body, body_of_bare_tiles_is_bare_tiles, aligned_keep_names}
+use Rattle.fluent_syntax_grammar.proofs.Runtime.{body_without_comments_is_of_bare_tiles}
+use Rattle.fluent_syntax_grammar.proofs.Runtime.{body_of_bare_tiles_is_bare_tiles, aligned_keep_names}
 use Rattle.fluent_syntax_grammar.proofs.Runtime.{aligned_is_faultless, aligned_is_equally_bare}
 use Rattle.fluent_syntax_grammar.proofs.BareEntries.{runtime_tiles_are_bare}
 
 module _ (edition : Edition) (t : List ℕ) where
-  pub one_reading : IsUnambiguous edition t
-  one_reading =
+  pub grammar_is_unambiguous : IsUnambiguous edition t
+  grammar_is_unambiguous =
       let R = family edition t in
       let h = family_is_functional edition t in
       record {
@@ -71,36 +72,38 @@ module _ (edition : Edition) (t : List ℕ) where
         dropped_line = tilings.whole_line_is_functional t;
       }
 
-  pub one_tiling : OneTiling edition t
-  one_tiling = tilings.same_tilings edition t
+  pub text_has_one_tiling : OneTiling edition t
+  text_has_one_tiling = tilings.tilings_of_text_are_same edition t
 
   pub one_runtime_tiling : OneRuntimeTiling edition t
   one_runtime_tiling = tilings.runtime_tilings_of_text_are_equal edition t
 
   faults_of_tiles_mean_their_kinds : (tiles : List Tile) →
-      list_every (IsTileWellFormed edition t (InText t) (text_cuts t)) tiles → list_every (FaultMeans t) (faults tiles)
+      list_every (IsTileWellFormed edition t (InText t) (places_in_text_are_boundaries t)) tiles →
+      list_every (FaultMeans t) (faults tiles)
   faults_of_tiles_mean_their_kinds [] g = tt
   faults_of_tiles_mean_their_kinds (entry s e ∷ tiles) (g, h) = faults_of_tiles_mean_their_kinds tiles h
   faults_of_tiles_mean_their_kinds (refused f ∷ tiles) (g, h) = (g.4, faults_of_tiles_mean_their_kinds tiles h)
   faults_of_tiles_mean_their_kinds (dropped ∷ tiles) (g, h) = faults_of_tiles_mean_their_kinds tiles h
 
-  pub kinds_mean : KindsMean edition t
-  kinds_mean = λ tiles a. faults_of_tiles_mean_their_kinds tiles
-      (tiles_are_well_formed edition t (InText t) (text_cuts t) 0 tiles (omega arith) a)
+  pub kinds_mean_their_constructs : KindsMean edition t
+  kinds_mean_their_constructs = λ tiles a. faults_of_tiles_mean_their_kinds tiles
+      (tiles_are_well_formed edition t (InText t) (places_in_text_are_boundaries t) 0 tiles (omega arith) a)
 
   pub runtime_kinds_mean : RuntimeKindsMean edition t
   runtime_kinds_mean =
       λ tiles a. faults_of_tiles_mean_their_kinds tiles
-      (runtime_tiles_are_well_formed edition t (InText t) (text_cuts t) 0 tiles (omega arith) a)
+      (runtime_tiles_are_well_formed edition t (InText t) (places_in_text_are_boundaries t) 0 tiles (omega arith) a)
 
   pub has_no_comments : HasNoComments edition t
   has_no_comments = λ tiles a. body_of_bare_tiles_is_bare_tiles tiles (runtime_tiles_are_bare edition t 0 tiles a)
-      ∙ sym (bare_body tiles)
+      ∙ sym (body_without_comments_is_of_bare_tiles tiles)
 
   pub same_messages_and_terms : SameMessagesAndTerms edition t
   same_messages_and_terms = λ xs ys a b.
       ap messages_and_terms (body_of_bare_tiles_is_bare_tiles ys (runtime_tiles_are_bare edition t 0 ys b))
-      ∙ (aligned_keep_names xs ys (aligned edition t xs ys a b) ∙ sym (ap messages_and_terms (bare_body xs)))
+      ∙ (aligned_keep_names xs ys (aligned edition t xs ys a b) ∙
+      sym (ap messages_and_terms (body_without_comments_is_of_bare_tiles xs)))
 
   pub no_new_errors : NoNewErrors edition t
   no_new_errors = λ xs ys a b e. aligned_is_faultless xs ys (aligned edition t xs ys a b) e
@@ -108,4 +111,5 @@ module _ (edition : Edition) (t : List ℕ) where
   pub same_without_comments : SameWithoutComments edition t
   same_without_comments = λ xs ys a b e.
       body_of_bare_tiles_is_bare_tiles ys (runtime_tiles_are_bare edition t 0 ys b)
-      ∙ (aligned_is_equally_bare xs ys (aligned edition t xs ys a b) e ∙ sym (bare_body xs))
+      ∙ (aligned_is_equally_bare xs ys (aligned edition t xs ys a b) e ∙
+      sym (body_without_comments_is_of_bare_tiles xs))

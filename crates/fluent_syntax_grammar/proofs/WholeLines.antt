@@ -18,7 +18,7 @@ use Rattle.fluent_syntax_grammar.proofs.LineEnds.{IsLineStart, line_starts_after
 use Rattle.fluent_syntax_grammar.proofs.LineEnds.{no_eol_end_means_no_eol}
 use Rattle.fluent_syntax_grammar.proofs.Facts.{byte_exists, tests_exclude, lt_or_le, holds-none, some_is_not_none}
 use Rattle.fluent_syntax_grammar.proofs.Facts.{equal_somes_have_equal_items}
-use Rattle.fluent_syntax_grammar.proofs.Tests.{neither_left, or_is_false, and_is_false_by_left}
+use Rattle.fluent_syntax_grammar.proofs.Tests.{false_or_left, or_is_false, and_is_false_by_left}
 
 -- a line from i on, with its line end, reaches to j
 pub record IsLine (t : List ℕ) (i j : ℕ) : Type 0 where
@@ -76,7 +76,7 @@ module _ (t : List ℕ) where
 
   place_of_line_has_no_lf : (k : ℕ) → is_line_place t k ≡ true → has_byte t lf k ≡ false
   place_of_line_has_no_lf k e = let b = line_place_has_byte_off_eol (slice_get t k) (has_eol t k) e in
-      neither_left (has_byte t lf k) (has_byte t cr k && has_byte t lf (k + 1)) b.0
+      false_or_left (has_byte t lf k) (has_byte t cr k && has_byte t lf (k + 1)) b.0
 
   line_run_ends_in_text : (i k : ℕ) → i ≤ length t → LongestRun (is_line_place t) i k → k ≤ length t
   line_run_ends_in_text i k l s =

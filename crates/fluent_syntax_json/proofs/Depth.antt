@@ -23,13 +23,13 @@ member_is_no_deeper k no_members e is = absurd (none-some _ is)
 member_is_no_deeper k (member l d ms) e is =
     either_is_no_deeper (slice_cmp nat_cmp k l) (get_member k ms) d e (members_depth ms) (member_is_no_deeper k ms e) is
 
-pub get_depth : (k : Text) (d e : Data) → get k d ≡ Some e → depth e < depth d
-get_depth k null e is = absurd (none-some _ is)
-get_depth k (boolean b) e is = absurd (none-some _ is)
-get_depth k (number n) e is = absurd (none-some _ is)
-get_depth k (string s) e is = absurd (none-some _ is)
-get_depth k (array ds) e is = absurd (none-some _ is)
-get_depth k (object ms) e is = let below = member_is_no_deeper k ms e is in omega arith
+pub member_is_less_deep : (k : Text) (d e : Data) → get k d ≡ Some e → depth e < depth d
+member_is_less_deep k null e is = absurd (none-some _ is)
+member_is_less_deep k (boolean b) e is = absurd (none-some _ is)
+member_is_less_deep k (number n) e is = absurd (none-some _ is)
+member_is_less_deep k (string s) e is = absurd (none-some _ is)
+member_is_less_deep k (array ds) e is = absurd (none-some _ is)
+member_is_less_deep k (object ms) e is = let below = member_is_no_deeper k ms e is in omega arith
 
 unless_null_gives_itself : (d e : Data) → unless_null d ≡ Some e → d ≡ e
 unless_null_gives_itself null e is = absurd (none-some _ is)
@@ -65,7 +65,7 @@ value_is_no_deeper (v ∷ vs) (suc i) d h = let below = value_is_no_deeper vs i 
 pub item_at_key_is_less_deep : (k : Text) (d e : Data) (vs items : List Value) (i : ℕ) (v : Value) → get k d ≡ Some e →
     as_array e ≡ Some (items_view vs) → items ≡ vs → i < length items → v ≡ get_or items i v → depth (view v) < depth d
 item_at_key_is_less_deep k d e vs items i v found list same h is =
-    let outer = get_depth k d e found in
+    let outer = member_is_less_deep k d e found in
     let inner = array_items_are_less_deep e (items_view vs) list in
     let below = value_is_no_deeper items i v h in
     let here = ap (λ x. depth (view x)) is in

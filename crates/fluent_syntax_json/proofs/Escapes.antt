@@ -46,13 +46,15 @@ module _ (bs : List ℕ) where
       ∙ sym (append_assoc (take end bs) (b ∷ []) rest)
       ∙ ap (λ t. t ++ rest) (sym (take_more bs end 0 within))
 
-  pub plain_block : (start n : ℕ) → start + n ≤ length bs → PlainBetween bs start (start + n) → IsPlainBefore bs start
+  pub plain_block_extends_plain_beginning : (start n : ℕ) → start + n ≤ length bs → PlainBetween bs start (start + n) →
+      IsPlainBefore bs start
       → IsPlainBefore bs (start + n)
-  plain_block start zero within plain before =
+  plain_block_extends_plain_beginning start zero within plain before =
       let same : start ≡ start + 0 = omega arith in
       subst (IsPlainBefore bs) same before
-  plain_block start (suc n) within plain before =
+  plain_block_extends_plain_beginning start (suc n) within plain before =
       let next : start + n + 1 ≡ start + suc n = omega arith in
-      let shorter = plain_block start n (omega arith) (λ k from to. plain k from (omega arith)) before in
+      let shorter =
+      plain_block_extends_plain_beginning start n (omega arith) (λ k from to. plain k from (omega arith)) before in
       let last = plain (start + n) (omega arith) (omega arith) in
       subst (IsPlainBefore bs) next (plain_bytes_extend_by_plain_byte (start + n) (omega arith) last shorter)

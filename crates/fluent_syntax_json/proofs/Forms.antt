@@ -7,7 +7,7 @@ use Rattle.serde_json.specs.declared.value.Value.{Value, Null, Bool, Array, the_
 use Rattle.serde_json.proofs.Views.{view-Array}
 use Rattle.fluent_syntax_tree.specs.Tree.{ElementTree, elements_of, VariantTree, variants_of, InlineTree, inlines_of}
 use Rattle.fluent_syntax_tree.specs.Tree.{NamedTree, nameds_of}
-use Rattle.fluent_syntax_tree.proofs.Lists.{maps_agree}
+use Rattle.fluent_syntax_tree.proofs.Lists.{maps_of_whole_prefix_agree}
 use Rattle.fluent_syntax_json.specs.Object.{Text}
 use Rattle.fluent_syntax_json.specs.Form.{list_form, element_form, element_forms, variant_form, variant_forms}
 use Rattle.fluent_syntax_json.specs.Form.{inline_form, inline_forms, named_form, named_forms}
@@ -51,7 +51,7 @@ module _ {A : Type 0} (v : Vec Value Global) (items xs : List A) (n : ℕ) where
   items_written_give_whole_array : (form : A → Data) → Made form → length items ≤ n → items ≡ xs →
       view (Array v) ≡ array (items_of (map form xs))
   items_written_give_whole_array form e h same =
-      view-Array v ∙ ap (λ l. array (items_of l)) (maps_agree view form v.items xs items n e h same)
+      view-Array v ∙ ap (λ l. array (items_of l)) (maps_of_whole_prefix_agree view form v.items xs items n e h same)
 
   pub list-made : {B : Type 0} (g : B → Data) (f : A → B) → Made (λ x. g (f x)) → length items ≤ n → items ≡ xs →
       view (Array v) ≡ list_form g (map f xs)

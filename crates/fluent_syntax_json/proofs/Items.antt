@@ -54,9 +54,9 @@ module _ {A : Type 0} (read : Data → Option A) where
       ∙ items_of_append_are_joined (map view (take i xs)) (view (get_or xs i v) ∷ [])
       ∙ rw (e, here, made, map-append f ys (y ∷ []))
 
-  pub finished : {T : Type 0} (f : T → A) (ys : List T) (xs items : List Value) (n : ℕ) →
+  pub items_read_when_all_are_so_far : {T : Type 0} (f : T → A) (ys : List T) (xs items : List Value) (n : ℕ) →
       so_far items n ≡ Some (map f ys) → length items ≤ n → items ≡ xs → items_by read (items_view xs) ≡ Some (map f ys)
-  finished f ys xs items n e h same =
+  items_read_when_all_are_so_far f ys xs items n e h same =
       ap (λ l. items_by read (items_of (map view l))) (sym same ∙ sym (take_all n items h)) ∙ e
 
   list_splits_at_its_item : (xs : List Value) (i : ℕ) (v : Value) → i < length xs →
@@ -70,9 +70,10 @@ module _ {A : Type 0} (read : Data → Option A) where
   joining_with_none_is_none None = refl
   joining_with_none_is_none (Some x) = refl
 
-  pub stopped : (xs items : List Value) (i : ℕ) (v : Value) → i < length items → v ≡ get_or items i v → items ≡ xs →
+  pub item_that_fails_fails_items : (xs items : List Value) (i : ℕ) (v : Value) → i < length items →
+      v ≡ get_or items i v → items ≡ xs →
       read (view v) ≡ None → items_by read (items_view xs) ≡ None
-  stopped xs items i v h is same none =
+  item_that_fails_fails_items xs items i v h is same none =
       let here : read (view (get_or items i v)) ≡ None = ap (λ x. read (view x)) (sym is) ∙ none in
       let apart =
       ap (map view) (sym same ∙ list_splits_at_its_item items i v h)

@@ -59,8 +59,8 @@ module _ (text : Text) (D E : Other) (defines : (name : Text) → D.defines name
       (E.defines (qualified_value text message))
       (defines (qualified_value text message)) part.Value message.name
 
-  first_same : (entry : EntryName) → missing_first D text entry ≡ missing_first E text entry
-  first_same entry =
+  first_missing_is_same_in_equal_set : (entry : EntryName) → missing_first D text entry ≡ missing_first E text entry
+  first_missing_is_same_in_equal_set entry =
       let name = qualified_name text entry in
       ap (λ p. if is_first p entry.name then missing_part_of D text entry part.Entry entry.name else None)
       (own_places name)
@@ -74,7 +74,7 @@ module _ (text : Text) (D E : Other) (defines : (name : Text) → D.defines name
       ap (λ d. if d then missing_value D text entry v else missing_first D text entry) (defines name)
       ∙ ap (λ o. if E.defines name then o else missing_first D text entry)
       (missing_value_is_same_for_equal_tables entry v)
-      ∙ ap (λ o. if E.defines name then missing_value E text entry v else o) (first_same entry)
+      ∙ ap (λ o. if E.defines name then missing_value E text entry v else o) (first_missing_is_same_in_equal_set entry)
 
   missing_attribute_is_same_for_equal_tables : (owner : EntryName) (x : Span)
       → missing_attribute D text owner x ≡ missing_attribute E text owner x
@@ -125,8 +125,9 @@ module _ (text : Text) (D E : Other) (defines : (name : Text) → D.defines name
       (missing_part_is_same_for_equal_tables owner (may_use D text owner x) (may_use E text owner x)
       (may_use_is_same_for_equal_tables owner x) part.Variable x)
 
-  function_same : (owner : EntryName) (x : Span) → missing_function D text owner x ≡ missing_function E text owner x
-  function_same owner x =
+  missing_function_is_same_in_equal_set : (owner : EntryName) (x : Span) →
+      missing_function D text owner x ≡ missing_function E text owner x
+  missing_function_is_same_in_equal_set owner x =
       missing_part_is_same_for_equal_tables owner (may_call D text x) (may_call E text x)
       (ap (λ u. is_built_in (name_at text x) || u) (uses (qualified_function text x))) part.Function x
 
@@ -140,7 +141,7 @@ module _ (text : Text) (D E : Other) (defines : (name : Text) → D.defines name
       missing_reference_is_same_for_equal_tables owner (message_name x)
   missing_part_same owner (says.TermReference x a) = missing_reference_is_same_for_equal_tables owner (term_name x)
   missing_part_same owner (says.Variable x) = missing_variable_is_same_for_equal_tables owner x
-  missing_part_same owner (says.Function x) = function_same owner x
+  missing_part_same owner (says.Function x) = missing_function_is_same_in_equal_set owner x
   missing_part_same owner (says.VariantKey x first) = refl
 
   pub missing_parts_are_same_for_equal_tables : (owner : EntryName) (ms : Mentions Span) (tail : List MissingPart)

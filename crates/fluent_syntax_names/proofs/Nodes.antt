@@ -17,8 +17,8 @@ some_node_is_injective : (u v : ℕ) → Some u ≡ Some v → u ≡ v
 some_node_is_injective u v e = cc
 
 module _ (all : List Link) (node : Numbering) (g : Graph) (has_edges : HasEdges all node g) where
-  pub graph_of_names_is_graph : IsGraph g
-  graph_of_names_is_graph u k within =
+  pub edges_of_name_graph_lead_to_nodes : IsGraph g
+  edges_of_name_graph_lead_to_nodes u k within =
       let name = has_edges.named u (target g u k) (k, within, refl) in has_edges.within name.1 (target g u k) name.3
 
   -- of what is reached each name has its node

@@ -57,15 +57,15 @@ module _ {X : Type 0} (key : Key) (place : X) (name : List ℕ) where
   row_put_beyond_is_found_after_first row rows true held = refl
   row_put_beyond_is_found_after_first row rows false held = held
 
-  row_put_in_order_is_found : (row : Row X) (rows : List (Row X)) (o : Ordering) → order key row.0 ≡ o
+  wanted_by_order_of_first_row : (row : Row X) (rows : List (Row X)) (o : Ordering) → order key row.0 ≡ o
       → find key.items (row ∷ rows) ≡ None
       → (find key.items rows ≡ None → wanted rows) → wanted (row ∷ rows)
-  row_put_in_order_is_found row rows Less e absent held = rw e (row_put_in_front_is_found_first (row ∷ rows) absent)
-  row_put_in_order_is_found row rows Equal e absent held =
+  wanted_by_order_of_first_row row rows Less e absent held = rw e (row_put_in_front_is_found_first (row ∷ rows) absent)
+  wanted_by_order_of_first_row row rows Equal e absent held =
       let there : find key.items (row ∷ rows) ≡ Some row.1 =
       ap (λ o. cond (is_eq o) (Some row.1) (find key.items rows)) e in
       let never : None ≡ Some row.1 = sym absent ∙ there in cc
-  row_put_in_order_is_found row rows Greater e absent held =
+  wanted_by_order_of_first_row row rows Greater e absent held =
       let rest : find key.items rows ≡ None =
       sym (ap (λ o. cond (is_eq o) (Some row.1) (find key.items rows)) e) ∙ absent in
       rw e (row_put_beyond_is_found_after_first row rows (is_at (λ k. slice_cmp nat_cmp name k.items) row.0)
@@ -75,4 +75,4 @@ module _ {X : Type 0} (key : Key) (place : X) (name : List ℕ) where
   pub inserted_key_is_found_after_others : (rows : List (Row X)) → find key.items rows ≡ None → wanted rows
   inserted_key_is_found_after_others [] absent = row_put_in_front_is_found_first [] absent
   inserted_key_is_found_after_others (row ∷ rows) absent =
-      row_put_in_order_is_found row rows (order key row.0) refl absent (inserted_key_is_found_after_others rows)
+      wanted_by_order_of_first_row row rows (order key row.0) refl absent (inserted_key_is_found_after_others rows)

@@ -19,11 +19,13 @@ IsAmong names name = list_any (bytes_eq name) names ≡ true
 no_name_is_among_none : (name : Text) → IsAmong [] name → ⊥
 no_name_is_among_none name among = let never : false ≡ true = among in cc
 
-among_cases : (x name : Text) (xs : List Text) → IsAmong (x ∷ xs) name → (name ≡ x) ⊎ IsAmong xs name
-among_cases x name xs among = elim (or_cases (bytes_eq name x) (list_any (bytes_eq name) xs) among) [
-  | inl is ↦ inl ((bytes_eq-Decides name x).0 is)
-  | inr is ↦ inr is
-]
+name_among_is_first_or_among_rest : (x name : Text) (xs : List Text) → IsAmong (x ∷ xs) name → (name ≡ x) ⊎
+    IsAmong xs name
+name_among_is_first_or_among_rest x name xs among =
+    elim (or_cases (bytes_eq name x) (list_any (bytes_eq name) xs) among) [
+      | inl is ↦ inl ((bytes_eq-Decides name x).0 is)
+      | inr is ↦ inr is
+    ]
 
 first_is_among : (x : Text) (xs : List Text) → IsAmong (x ∷ xs) x
 first_is_among x xs = or_from_left (bytes_eq x x) (list_any (bytes_eq x) xs) (name_equals_itself x)
@@ -79,7 +81,8 @@ module _ (all : List Link) where
         | inl w ↦ reached z (IsAmong-more x z xs w)
         | inr w ↦ reach_extends_by_link from x z here (sym (referred_messages_are_link_targets all x z) ∙ w)
       ] in
-      elim (among_cases x y beyond.0 (subst (λ (l : List Text). IsAmong l y) (sym beyond.2) among)) [
+      elim (name_among_is_first_or_among_rest x y beyond.0
+      (subst (λ (l : List Text). IsAmong l y) (sym beyond.2) among)) [
         | inl is ↦ subst (Reaches all from) (sym is) here
         | inr w ↦
             names_reachable_within_are_reached from room (xs ++ messages_of all x) beyond.0 beyond.1 reached_too y w
@@ -99,13 +102,13 @@ module _ (all : List Link) where
       let has : (z : Text) → (list_any (bytes_eq z) xs || list_any (bytes_eq z) (messages_of all x)) ≡ true
       → IsAmong ys z =
       λ z is. closed.0 z (list_any-append (bytes_eq z) xs (messages_of all x) ∙ is) in (
-        λ z among. elim (among_cases x z xs among) [
+        λ z among. elim (name_among_is_first_or_among_rest x z xs among) [
           | inl is ↦ subst (IsAmong (x ∷ ys)) (sym is) (first_is_among x ys)
           | inr w ↦
               let first = or_from_left (list_any (bytes_eq z) xs) (list_any (bytes_eq z) (messages_of all x)) w in
               IsAmong-more x z ys (has z first)
         ],
-        λ z y among e. elim (among_cases x z ys among) [
+        λ z y among e. elim (name_among_is_first_or_among_rest x z ys among) [
           | inl is ↦
               let first : links_to all x y ≡ true = ap (λ (w : Text). links_to all w y) (sym is) ∙ e in
               IsAmong-more x y ys
@@ -115,16 +118,19 @@ module _ (all : List Link) where
         ],
       )
 
-  all_closed : (room : ℕ) (names reachable : List Text) → reachable_within (messages_of all) room names ≡ Some reachable
+  reachable_messages_are_closed : (room : ℕ) (names reachable : List Text) →
+      reachable_within (messages_of all) room names ≡ Some reachable
       → IsClosed names reachable
-  all_closed zero [] reachable e = let none : [] ≡ reachable = cc in subst (IsClosed []) none empty_names_are_closed
-  all_closed zero (x ∷ xs) reachable e = absurd (cc)
-  all_closed (suc room) [] reachable e =
+  reachable_messages_are_closed zero [] reachable e = let none : [] ≡ reachable = cc in
+      subst (IsClosed []) none empty_names_are_closed
+  reachable_messages_are_closed zero (x ∷ xs) reachable e = absurd (cc)
+  reachable_messages_are_closed (suc room) [] reachable e =
       let none : [] ≡ reachable = cc in subst (IsClosed []) none empty_names_are_closed
-  all_closed (suc room) (x ∷ xs) reachable e =
+  reachable_messages_are_closed (suc room) (x ∷ xs) reachable e =
       let beyond = put_before_some x (reachable_within (messages_of all) room (xs ++ messages_of all x)) reachable e in
       subst (IsClosed (x ∷ xs)) beyond.2
-      (closed_names_extend_by_name x xs beyond.0 (all_closed room (xs ++ messages_of all x) beyond.0 beyond.1))
+      (closed_names_extend_by_name x xs beyond.0
+      (reachable_messages_are_closed room (xs ++ messages_of all x) beyond.0 beyond.1))
 
   -- so it has what they reach
   name_reached_from_closed_is_among_them : (names reachable : List Text) → IsClosed names reachable → (x y : Text)
@@ -149,5 +155,5 @@ module _ (all : List Link) where
         names_reachable_within_are_reached from followed_limit (messages_of all from) reachable e
         (λ x is. next from x (sym (referred_messages_are_link_targets all from x) ∙ is)) to among,
     λ reached. reached_name_is_among_reachable from reachable
-        (all_closed followed_limit (messages_of all from) reachable e) to reached,
+        (reachable_messages_are_closed followed_limit (messages_of all from) reachable e) to reached,
   )

@@ -81,8 +81,8 @@ pub record CountsOne (old new : ℕ → ℕ) (select : ℕ) : Type 0 where
 
 -- ---- Keys that are never chosen
 
--- whether the language never chooses the key: all other keys of its select are numbers or categories, and so is this one,
--- but not of the language; or else it is misspelt, and another is a category that is not `other`
+-- whether the language never chooses the key: all other keys of its select are numbers or categories, and so is
+-- this one, but not of the language; or else it is misspelt, and another is a category that is not `other`
 abbrev pub is_never_chosen : Words → (categories strangers : ℕ) → (key : Text) → Bool
 is_never_chosen known categories strangers key =
     if is_stranger key then strangers == 1 && nat_lt 0 categories

@@ -11,10 +11,10 @@ use crate::select_counts::{KeyKind, SelectCounts, select_counts};
 use fluent_syntax_tree::spans::Span;
 use std::alloc::{AllocError, Global};
 
-/// The keys that a language with these categories never chooses, in the order of the text: those of a select whose other
-/// keys are all numbers or plural categories. Such a key is a category that the language lacks, as `two` of `one`, `two`
-/// and `other` in English; or it is none at all, and another key is one that is not `other`, as of `on`, `few` and
-/// `other`.
+/// The keys that a language with these categories never chooses, in the order of the text: those of a select whose
+/// other keys are all numbers or plural categories. Such a key is a category that the language has not, as `two` of
+/// `one`, `two` and `other` in English; or it is none at all, and another key is one that is not `other`, as of `on`,
+/// `few` and `other`.
 ///
 /// Takes the memory of two tables of selects, and of the list; `AllocError` where there is none.
 pub fn unchosen_keys<'x>(

@@ -88,9 +88,9 @@ false_decides_refuted r e refused = (λ h. absurd (true≢false (sym h ∙ e)), 
 true_decides_proved : {Q : Type 0} (r : Bool) → r ≡ true → Q → Decides r Q
 true_decides_proved r e q = (λ _. q, λ _. e)
 
-decides_and : {P Q : Type 0} (r s : Bool) → Decides r P → Decides s Q → Decides (r && s) (P × Q)
-decides_and true s d e = (λ h. (d.0 refl, e.0 h), λ pq. e.1 pq.1)
-decides_and false s d e = (λ h. absurd (true≢false (sym h)), λ pq. d.1 pq.0)
+both_decisions_decide_and : {P Q : Type 0} (r s : Bool) → Decides r P → Decides s Q → Decides (r && s) (P × Q)
+both_decisions_decide_and true s d e = (λ h. (d.0 refl, e.0 h), λ pq. e.1 pq.1)
+both_decisions_decide_and false s d e = (λ h. absurd (true≢false (sym h)), λ pq. d.1 pq.0)
 
 beq-Decides : (a b : Bool) → Decides (beq a b) (a ≡ b)
 beq-Decides true true = (λ _. refl, λ _. refl)
@@ -98,8 +98,8 @@ beq-Decides true false = (λ h. absurd (true≢false (sym h)), λ q. absurd (tru
 beq-Decides false true = (λ h. absurd (true≢false (sym h)), λ q. absurd (true≢false (sym q)))
 beq-Decides false false = (λ _. refl, λ _. refl)
 
-decides_as : {P Q : Type 0} (r s : Bool) → r ≡ s → Decides s P → (P → Q) → (Q → P) → Decides r Q
-decides_as r s e d to from = (λ h. to (d.0 (sym e ∙ h)), λ q. e ∙ d.1 (from q))
+equal_test_decides_equivalent : {P Q : Type 0} (r s : Bool) → r ≡ s → Decides s P → (P → Q) → (Q → P) → Decides r Q
+equal_test_decides_equivalent r s e d to from = (λ h. to (d.0 (sym e ∙ h)), λ q. e ∙ d.1 (from q))
 
 -- ---- which form a tree has, by a number: two forms are apart where their numbers are, which computes
 
@@ -127,20 +127,25 @@ inline_number (inline_placeable e) = 6
 
 -- ---- options and lists
 
-option_decide : {A X : Type 0} (eq : A → A → Bool) (view : A → X) → ((a b : A) → Decides (eq a b) (view a ≡ view b)) →
+equality_of_options_is_decided : {A X : Type 0} (eq : A → A → Bool) (view : A → X) →
+    ((a b : A) → Decides (eq a b) (view a ≡ view b)) →
     (o p : Option A) → Decides (option_eq eq o p) (option_map view o ≡ option_map view p)
-option_decide eq view d None None = true_decides_proved _ refl refl
-option_decide eq view d None (Some b) = false_decides_refuted _ refl (λ q. cc)
-option_decide eq view d (Some a) None = false_decides_refuted _ refl (λ q. cc)
-option_decide eq view d (Some a) (Some b) = decides_as _ _ refl (d a b) (λ h. ap Some h) (λ q. cc)
+equality_of_options_is_decided eq view d None None = true_decides_proved _ refl refl
+equality_of_options_is_decided eq view d None (Some b) = false_decides_refuted _ refl (λ q. cc)
+equality_of_options_is_decided eq view d (Some a) None = false_decides_refuted _ refl (λ q. cc)
+equality_of_options_is_decided eq view d (Some a) (Some b) =
+    equal_test_decides_equivalent _ _ refl (d a b) (λ h. ap Some h) (λ q. cc)
 
-list_decide : {A X : Type 0} (eq : A → A → Bool) (view : A → X) → ((a b : A) → Decides (eq a b) (view a ≡ view b)) →
+equality_of_lists_is_decided : {A X : Type 0} (eq : A → A → Bool) (view : A → X) →
+    ((a b : A) → Decides (eq a b) (view a ≡ view b)) →
     (xs ys : List A) → Decides (pointwise eq xs ys) (map view xs ≡ map view ys)
-list_decide eq view d [] [] = true_decides_proved _ refl refl
-list_decide eq view d [] (y ∷ ys) = false_decides_refuted _ refl (λ q. cc)
-list_decide eq view d (x ∷ xs) [] = false_decides_refuted _ refl (λ q. cc)
-list_decide eq view d (x ∷ xs) (y ∷ ys) =
-    decides_as _ _ refl (decides_and _ _ (d x y) (list_decide eq view d xs ys)) (λ h. rw (h.0, h.1)) (λ q. (cc, cc))
+equality_of_lists_is_decided eq view d [] [] = true_decides_proved _ refl refl
+equality_of_lists_is_decided eq view d [] (y ∷ ys) = false_decides_refuted _ refl (λ q. cc)
+equality_of_lists_is_decided eq view d (x ∷ xs) [] = false_decides_refuted _ refl (λ q. cc)
+equality_of_lists_is_decided eq view d (x ∷ xs) (y ∷ ys) =
+    equal_test_decides_equivalent _ _ refl
+    (both_decisions_decide_and _ _ (d x y) (equality_of_lists_is_decided eq view d xs ys)) (λ h. rw (h.0, h.1))
+    (λ q. (cc, cc))
 
 module _ {X : Type 0} (S : RattleType) (E : Ghosts S.Denot) (dict : Dict) (lawful : Lawful S E dict)
     (text : S.Denot → X) (by_text : (x y : S.Denot) → Decides (E.eq x y) (text x ≡ text y)) where
@@ -151,11 +156,11 @@ module _ {X : Type 0} (S : RattleType) (E : Ghosts S.Denot) (dict : Dict) (lawfu
   pub decides_by_view-VariantKey : (i j : VariantKey S.Denot) →
       Decides ((key_eq.ghosts S E dict).eq i j) (key_view text i ≡ key_view text j)
   decides_by_view-VariantKey (key.Identifier x) (key.Identifier y) =
-      decides_as _ _ refl (by_text x y) (λ h. rw h) (λ q. cc)
+      equal_test_decides_equivalent _ _ refl (by_text x y) (λ h. rw h) (λ q. cc)
   decides_by_view-VariantKey (key.Identifier x) (key.NumberLiteral y) = false_decides_refuted _ refl (λ q. cc)
   decides_by_view-VariantKey (key.NumberLiteral x) (key.Identifier y) = false_decides_refuted _ refl (λ q. cc)
   decides_by_view-VariantKey (key.NumberLiteral x) (key.NumberLiteral y) =
-      decides_as _ _ refl (by_text x y) (λ h. rw h) (λ q. cc)
+      equal_test_decides_equivalent _ _ refl (by_text x y) (λ h. rw h) (λ q. cc)
 
   -- ---- what each form's `==` computes to
 
@@ -292,7 +297,8 @@ module _ {X : Type 0} (S : RattleType) (E : Ghosts S.Denot) (dict : Dict) (lawfu
   equality_of_inlines_decides [] (b ∷ bs) = false_decides_refuted _ refl (λ q. cc)
   equality_of_inlines_decides (p ∷ ps) [] = false_decides_refuted _ refl (λ q. cc)
   equality_of_inlines_decides (p ∷ ps) (b ∷ bs) =
-      decides_as _ _ refl (decides_and _ _ (p.1 b) (equality_of_inlines_decides ps bs)) (λ h. rw (h.0, h.1))
+      equal_test_decides_equivalent _ _ refl (both_decisions_decide_and _ _ (p.1 b) (equality_of_inlines_decides ps bs))
+      (λ h. rw (h.0, h.1))
       (λ q. (cc, cc))
 
   equality_of_named_arguments_decides : (ps : List (WithClaim ClaimN)) (bs : List (NamedArgument S.Denot)) →
@@ -302,7 +308,8 @@ module _ {X : Type 0} (S : RattleType) (E : Ghosts S.Denot) (dict : Dict) (lawfu
   equality_of_named_arguments_decides [] (b ∷ bs) = false_decides_refuted _ refl (λ q. cc)
   equality_of_named_arguments_decides (p ∷ ps) [] = false_decides_refuted _ refl (λ q. cc)
   equality_of_named_arguments_decides (p ∷ ps) (b ∷ bs) =
-      decides_as _ _ refl (decides_and _ _ (p.1 b) (equality_of_named_arguments_decides ps bs)) (λ h. rw (h.0, h.1))
+      equal_test_decides_equivalent _ _ refl
+      (both_decisions_decide_and _ _ (p.1 b) (equality_of_named_arguments_decides ps bs)) (λ h. rw (h.0, h.1))
       (λ q. (cc, cc))
 
   equality_of_elements_decides : (ps : List (WithClaim ClaimE)) (bs : List (PatternElement S.Denot)) →
@@ -312,7 +319,8 @@ module _ {X : Type 0} (S : RattleType) (E : Ghosts S.Denot) (dict : Dict) (lawfu
   equality_of_elements_decides [] (b ∷ bs) = false_decides_refuted _ refl (λ q. cc)
   equality_of_elements_decides (p ∷ ps) [] = false_decides_refuted _ refl (λ q. cc)
   equality_of_elements_decides (p ∷ ps) (b ∷ bs) =
-      decides_as _ _ refl (decides_and _ _ (p.1 b) (equality_of_elements_decides ps bs)) (λ h. rw (h.0, h.1))
+      equal_test_decides_equivalent _ _ refl
+      (both_decisions_decide_and _ _ (p.1 b) (equality_of_elements_decides ps bs)) (λ h. rw (h.0, h.1))
       (λ q. (cc, cc))
 
   equality_of_variants_decides : (ps : List (WithClaim ClaimV)) (bs : List (Variant S.Denot)) →
@@ -322,7 +330,8 @@ module _ {X : Type 0} (S : RattleType) (E : Ghosts S.Denot) (dict : Dict) (lawfu
   equality_of_variants_decides [] (b ∷ bs) = false_decides_refuted _ refl (λ q. cc)
   equality_of_variants_decides (p ∷ ps) [] = false_decides_refuted _ refl (λ q. cc)
   equality_of_variants_decides (p ∷ ps) (b ∷ bs) =
-      decides_as _ _ refl (decides_and _ _ (p.1 b) (equality_of_variants_decides ps bs)) (λ h. rw (h.0, h.1))
+      equal_test_decides_equivalent _ _ refl
+      (both_decisions_decide_and _ _ (p.1 b) (equality_of_variants_decides ps bs)) (λ h. rw (h.0, h.1))
       (λ q. (cc, cc))
 
   decide-Element :
@@ -337,7 +346,7 @@ module _ {X : Type 0} (S : RattleType) (E : Ghosts S.Denot) (dict : Dict) (lawfu
       (element_view text a ≡ element_view text (roll-PatternElement S.Denot z))
   unfolding roll-PatternElement carrier.roll out-PatternElement carrier.out
   decide-Element (layer.TextElement x) (layer.TextElement y) =
-      decides_as _ _ (eq-TextElement x y) (by_text x y)
+      equal_test_decides_equivalent _ _ (eq-TextElement x y) (by_text x y)
       (λ p. view-TextElement text x ∙ ap text_element p ∙ sym (view-TextElement text y))
       (λ q. let e : text_element (text x) ≡ text_element (text y) =
       sym (view-TextElement text x) ∙ q ∙ view-TextElement text y in cc e)
@@ -350,7 +359,7 @@ module _ {X : Type 0} (S : RattleType) (E : Ghosts S.Denot) (dict : Dict) (lawfu
       (λ q. let f : placeable (expression_view text e.0) ≡ text_element (text y) =
       sym (view-Placeable text e.0) ∙ q ∙ view-TextElement text y in cc f)
   decide-Element (layer.PatternElement::Placeable e) (layer.PatternElement::Placeable d) =
-      decides_as _ _ (eq-Placeable e.0 d) (e.1 d)
+      equal_test_decides_equivalent _ _ (eq-Placeable e.0 d) (e.1 d)
       (λ p. view-Placeable text e.0 ∙ ap placeable p ∙ sym (view-Placeable text d))
       (λ q. let f : placeable (expression_view text e.0) ≡ placeable (expression_view text d) =
       sym (view-Placeable text e.0) ∙ q ∙ view-Placeable text d in cc f)
@@ -367,7 +376,8 @@ module _ {X : Type 0} (S : RattleType) (E : Ghosts S.Denot) (dict : Dict) (lawfu
       (expression_view text a ≡ expression_view text (roll-Expression S.Denot z))
   unfolding roll-Expression carrier.roll out-Expression carrier.out
   decide-Expression (layer.Select e vs) (layer.Select d ws) =
-      decides_as _ _ (eq-Select e.0 d _ ws) (decides_and _ _ (e.1 d) (equality_of_variants_decides vs.items ws.items))
+      equal_test_decides_equivalent _ _ (eq-Select e.0 d _ ws)
+      (both_decisions_decide_and _ _ (e.1 d) (equality_of_variants_decides vs.items ws.items))
       (λ h. view-Select text e.0 _
       ∙ ap (λ k. select k (variants_of (map (variant_view text) (map (λ p. p.0) vs.items)))) h.0
       ∙ ap (select (inline_view text d)) h.1 ∙ sym (view-Select text d ws))
@@ -376,7 +386,8 @@ module _ {X : Type 0} (S : RattleType) (E : Ghosts S.Denot) (dict : Dict) (lawfu
       ≡ select (inline_view text d) (variants_of (map (variant_view text) ws.items)) =
       sym (view-Select text e.0 _) ∙ q ∙ view-Select text d ws in (cc f, cc f))
   decide-Expression (layer.Inline e) (layer.Inline d) =
-      decides_as _ _ (eq-Inline e.0 d) (e.1 d) (λ p. view-Inline text e.0 ∙ ap inline p ∙ sym (view-Inline text d))
+      equal_test_decides_equivalent _ _ (eq-Inline e.0 d) (e.1 d)
+      (λ p. view-Inline text e.0 ∙ ap inline p ∙ sym (view-Inline text d))
       (λ q. let f : inline (inline_view text e.0) ≡ inline (inline_view text d) =
       sym (view-Inline text e.0) ∙ q ∙ view-Inline text d in cc f)
   decide-Expression y z =
@@ -393,7 +404,8 @@ module _ {X : Type 0} (S : RattleType) (E : Ghosts S.Denot) (dict : Dict) (lawfu
   equality_of_arguments_decides None None = true_decides_proved _ refl refl
   equality_of_arguments_decides None (Some b) = false_decides_refuted _ refl (λ q. cc)
   equality_of_arguments_decides (Some p) None = false_decides_refuted _ refl (λ q. cc)
-  equality_of_arguments_decides (Some p) (Some b) = decides_as _ _ refl (p.1 b) (λ h. ap some_arguments h) (λ q. cc)
+  equality_of_arguments_decides (Some p) (Some b) =
+      equal_test_decides_equivalent _ _ refl (p.1 b) (λ h. ap some_arguments h) (λ q. cc)
 
   decide-Inline :
       (y : Held (InlineExpression-F S.Denot))
@@ -407,17 +419,18 @@ module _ {X : Type 0} (S : RattleType) (E : Ghosts S.Denot) (dict : Dict) (lawfu
       (inline_view text a ≡ inline_view text (roll-InlineExpression S.Denot z))
   unfolding roll-InlineExpression carrier.roll out-InlineExpression carrier.out
   decide-Inline (layer.StringLiteral x) (layer.StringLiteral y) =
-      decides_as _ _ (eq-StringLiteral x y) (by_text x y)
+      equal_test_decides_equivalent _ _ (eq-StringLiteral x y) (by_text x y)
       (λ p. view-StringLiteral text x ∙ ap string_literal p ∙ sym (view-StringLiteral text y))
       (λ q. let e : string_literal (text x) ≡ string_literal (text y) =
       sym (view-StringLiteral text x) ∙ q ∙ view-StringLiteral text y in cc e)
   decide-Inline (layer.NumberLiteral x) (layer.NumberLiteral y) =
-      decides_as _ _ (eq-NumberLiteral x y) (by_text x y)
+      equal_test_decides_equivalent _ _ (eq-NumberLiteral x y) (by_text x y)
       (λ p. view-NumberLiteral text x ∙ ap number_literal p ∙ sym (view-NumberLiteral text y))
       (λ q. let e : number_literal (text x) ≡ number_literal (text y) =
       sym (view-NumberLiteral text x) ∙ q ∙ view-NumberLiteral text y in cc e)
   decide-Inline (layer.FunctionReference i a) (layer.FunctionReference j b) =
-      decides_as _ _ (eq-FunctionReference i j a.0 b) (decides_and _ _ (by_text i.name j.name) (a.1 b))
+      equal_test_decides_equivalent _ _ (eq-FunctionReference i j a.0 b)
+      (both_decisions_decide_and _ _ (by_text i.name j.name) (a.1 b))
       (λ h. view-FunctionReference text i a.0 ∙ ap (λ x. function_reference x (arguments_view text a.0)) h.0
       ∙ ap (function_reference (text j.name)) h.1 ∙ sym (view-FunctionReference text j b))
       (λ q. let f :
@@ -425,8 +438,9 @@ module _ {X : Type 0} (S : RattleType) (E : Ghosts S.Denot) (dict : Dict) (lawfu
       ≡ function_reference (text j.name) (arguments_view text b) =
       sym (view-FunctionReference text i a.0) ∙ q ∙ view-FunctionReference text j b in (cc f, cc f))
   decide-Inline (layer.MessageReference i o) (layer.MessageReference j p) =
-      decides_as _ _ (eq-MessageReference i j o p)
-      (decides_and _ _ (by_text i.name j.name) (option_decide _ (identifier_view text) decides_by_view-Identifier o p))
+      equal_test_decides_equivalent _ _ (eq-MessageReference i j o p)
+      (both_decisions_decide_and _ _ (by_text i.name j.name)
+      (equality_of_options_is_decided _ (identifier_view text) decides_by_view-Identifier o p))
       (λ h. view-MessageReference text i o ∙ ap (λ x. message_reference x (option_map (identifier_view text) o)) h.0
       ∙ ap (message_reference (text j.name)) h.1 ∙ sym (view-MessageReference text j p))
       (λ q. let f :
@@ -434,9 +448,10 @@ module _ {X : Type 0} (S : RattleType) (E : Ghosts S.Denot) (dict : Dict) (lawfu
       ≡ message_reference (text j.name) (option_map (identifier_view text) p) =
       sym (view-MessageReference text i o) ∙ q ∙ view-MessageReference text j p in (cc f, cc f))
   decide-Inline (layer.TermReference i o None) (layer.TermReference j p b) =
-      decides_as _ _ (eq-TermReference i j o p None b)
-      (decides_and _ _ (by_text i.name j.name)
-      (decides_and _ _ (option_decide _ (identifier_view text) decides_by_view-Identifier o p)
+      equal_test_decides_equivalent _ _ (eq-TermReference i j o p None b)
+      (both_decisions_decide_and _ _ (by_text i.name j.name)
+      (both_decisions_decide_and _ _
+      (equality_of_options_is_decided _ (identifier_view text) decides_by_view-Identifier o p)
       (equality_of_arguments_decides None b)))
       (λ h. view-TermReference text i o None
       ∙ ap (λ x. term_reference x (option_map (identifier_view text) o)
@@ -451,9 +466,10 @@ module _ {X : Type 0} (S : RattleType) (E : Ghosts S.Denot) (dict : Dict) (lawfu
       (arguments_of (option_map (arguments_view text) b)) =
       sym (view-TermReference text i o None) ∙ q ∙ view-TermReference text j p b in (cc f, (cc f, cc f)))
   decide-Inline (layer.TermReference i o (Some a)) (layer.TermReference j p b) =
-      decides_as _ _ (eq-TermReference i j o p (Some a.0) b)
-      (decides_and _ _ (by_text i.name j.name)
-      (decides_and _ _ (option_decide _ (identifier_view text) decides_by_view-Identifier o p)
+      equal_test_decides_equivalent _ _ (eq-TermReference i j o p (Some a.0) b)
+      (both_decisions_decide_and _ _ (by_text i.name j.name)
+      (both_decisions_decide_and _ _
+      (equality_of_options_is_decided _ (identifier_view text) decides_by_view-Identifier o p)
       (equality_of_arguments_decides (Some a) b)))
       (λ h. view-TermReference text i o (Some a.0)
       ∙ ap (λ x. term_reference x (option_map (identifier_view text) o)
@@ -468,12 +484,12 @@ module _ {X : Type 0} (S : RattleType) (E : Ghosts S.Denot) (dict : Dict) (lawfu
       (arguments_of (option_map (arguments_view text) b)) =
       sym (view-TermReference text i o (Some a.0)) ∙ q ∙ view-TermReference text j p b in (cc f, (cc f, cc f)))
   decide-Inline (layer.VariableReference i) (layer.VariableReference j) =
-      decides_as _ _ (eq-VariableReference i j) (by_text i.name j.name)
+      equal_test_decides_equivalent _ _ (eq-VariableReference i j) (by_text i.name j.name)
       (λ p. view-VariableReference text i ∙ ap variable_reference p ∙ sym (view-VariableReference text j))
       (λ q. let e : variable_reference (text i.name) ≡ variable_reference (text j.name) =
       sym (view-VariableReference text i) ∙ q ∙ view-VariableReference text j in cc e)
   decide-Inline (layer.InlineExpression::Placeable e) (layer.InlineExpression::Placeable d) =
-      decides_as _ _ (eq-InlinePlaceable _ d) (e.value.1 d.value)
+      equal_test_decides_equivalent _ _ (eq-InlinePlaceable _ d) (e.value.1 d.value)
       (λ p. view-InlinePlaceable text _ ∙ ap inline_placeable p ∙ sym (view-InlinePlaceable text d))
       (λ q. let f :
       inline_placeable (expression_view text e.value.0) ≡ inline_placeable (expression_view text d.value) =
@@ -496,8 +512,8 @@ module _ {X : Type 0} (S : RattleType) (E : Ghosts S.Denot) (dict : Dict) (lawfu
       Decides ((arguments_eq.ghosts S E dict).eq a (roll-CallArguments S.Denot z))
       (arguments_view text a ≡ arguments_view text (roll-CallArguments S.Denot z))
   decide-Arguments y z =
-      decides_as _ _ (eq-CallArguments _ z)
-      (decides_and _ _ (equality_of_inlines_decides y.positional.items z.positional.items)
+      equal_test_decides_equivalent _ _ (eq-CallArguments _ z)
+      (both_decisions_decide_and _ _ (equality_of_inlines_decides y.positional.items z.positional.items)
       (equality_of_named_arguments_decides y.named.items z.named.items))
       (λ h. view-roll-CallArguments text _
       ∙ ap (λ x. arguments x (nameds_of (map (named_view text) (map (λ p. p.0) y.named.items)))) h.0
@@ -516,8 +532,8 @@ module _ {X : Type 0} (S : RattleType) (E : Ghosts S.Denot) (dict : Dict) (lawfu
       (λ e. e.0) (λ e. e.0) y) in
       Decides ((named_eq.ghosts S E dict).eq a b) (named_view text a ≡ named_view text b)
   decide-Named y b =
-      decides_as _ _ (named_laws.is S E dict lawful _ b)
-      (decides_and _ _ (by_text y.name.name b.name.name) (y.value.1 b.value))
+      equal_test_decides_equivalent _ _ (named_laws.is S E dict lawful _ b)
+      (both_decisions_decide_and _ _ (by_text y.name.name b.name.name) (y.value.1 b.value))
       (λ h. view-NamedArgument text _ ∙ ap (λ x. named_argument x (inline_view text y.value.0)) h.0
       ∙ ap (named_argument (text b.name.name)) h.1 ∙ sym (view-NamedArgument text b))
       (λ q. let f :
@@ -531,7 +547,7 @@ module _ {X : Type 0} (S : RattleType) (E : Ghosts S.Denot) (dict : Dict) (lawfu
       (λ e. e.0) (λ e. e.0) y) in
       Decides ((pattern_eq.ghosts S E dict).eq a b) (pattern_view text a ≡ pattern_view text b)
   decide-Pattern y b =
-      decides_as _ _ (pattern_laws.is S E dict lawful _ b)
+      equal_test_decides_equivalent _ _ (pattern_laws.is S E dict lawful _ b)
       (equality_of_elements_decides y.elements.items b.elements.items)
       (λ p. view-Pattern text _ ∙ p ∙ sym (view-Pattern text b))
       (λ q. sym (view-Pattern text _) ∙ q ∙ view-Pattern text b)
@@ -542,9 +558,9 @@ module _ {X : Type 0} (S : RattleType) (E : Ghosts S.Denot) (dict : Dict) (lawfu
       (λ e. e.0) (λ e. e.0) y) in
       Decides ((variant_eq.ghosts S E dict).eq a b) (variant_view text a ≡ variant_view text b)
   decide-Variant y b =
-      decides_as _ _ (variant_laws.is S E dict lawful _ b)
-      (decides_and _ _ (decides_by_view-VariantKey y.key b.key)
-      (decides_and _ _ (y.value.1 b.value) (beq-Decides y.default b.default)))
+      equal_test_decides_equivalent _ _ (variant_laws.is S E dict lawful _ b)
+      (both_decisions_decide_and _ _ (decides_by_view-VariantKey y.key b.key)
+      (both_decisions_decide_and _ _ (y.value.1 b.value) (beq-Decides y.default b.default)))
       (λ h. view-Variant text _ ∙ ap (λ x. variant x (pattern_view text y.value.0) y.default) h.0
       ∙ ap (λ x. variant (key_view text b.key) x y.default) h.1.0
       ∙ ap (λ x. variant (key_view text b.key) (pattern_view text b.value) x) h.1.1 ∙ sym (view-Variant text b))
@@ -579,12 +595,13 @@ module _ {X : Type 0} (S : RattleType) (E : Ghosts S.Denot) (dict : Dict) (lawfu
 
   pub decides_by_view-Comment : (a b : Comment S.Denot) →
       Decides ((comment_eq.ghosts S E dict).eq a b) (comment_view text a ≡ comment_view text b)
-  decides_by_view-Comment a b = list_decide E.eq text by_text a.content.items b.content.items
+  decides_by_view-Comment a b = equality_of_lists_is_decided E.eq text by_text a.content.items b.content.items
 
   pub decides_by_view-Attribute : (a b : Attribute S.Denot) →
       Decides ((attribute_eq.ghosts S E dict).eq a b) (attribute_view text a ≡ attribute_view text b)
   decides_by_view-Attribute a b =
-      decides_as _ _ refl (decides_and _ _ (by_text a.id.name b.id.name) (decides_by_view-Pattern a.value b.value))
+      equal_test_decides_equivalent _ _ refl
+      (both_decisions_decide_and _ _ (by_text a.id.name b.id.name) (decides_by_view-Pattern a.value b.value))
       (λ h. cc)
       (λ q. (ap (λ x. x.id) q, ap (λ x. x.value) q))
 
@@ -592,56 +609,59 @@ module _ {X : Type 0} (S : RattleType) (E : Ghosts S.Denot) (dict : Dict) (lawfu
       Decides (option_eq (pattern_eq.ghosts S E dict).eq o p)
       (option_map (pattern_view text) o ≡ option_map (pattern_view text) p)
   equality_of_values_decides o p =
-      option_decide (pattern_eq.ghosts S E dict).eq (pattern_view text) decides_by_view-Pattern o p
+      equality_of_options_is_decided (pattern_eq.ghosts S E dict).eq (pattern_view text) decides_by_view-Pattern o p
 
   equality_of_attributes_decides : (xs ys : List (Attribute S.Denot)) →
       Decides (pointwise (attribute_eq.ghosts S E dict).eq xs ys)
       (map (attribute_view text) xs ≡ map (attribute_view text) ys)
   equality_of_attributes_decides xs ys =
-      list_decide (attribute_eq.ghosts S E dict).eq (attribute_view text) decides_by_view-Attribute xs ys
+      equality_of_lists_is_decided (attribute_eq.ghosts S E dict).eq (attribute_view text) decides_by_view-Attribute xs
+      ys
 
   equality_of_comments_decides : (o p : Option (Comment S.Denot)) →
       Decides (option_eq (comment_eq.ghosts S E dict).eq o p)
       (option_map (comment_view text) o ≡ option_map (comment_view text) p)
   equality_of_comments_decides o p =
-      option_decide (comment_eq.ghosts S E dict).eq (comment_view text) decides_by_view-Comment o p
+      equality_of_options_is_decided (comment_eq.ghosts S E dict).eq (comment_view text) decides_by_view-Comment o p
 
   pub decides_by_view-Message : (a b : Message S.Denot) →
       Decides ((message_eq.ghosts S E dict).eq a b) (message_view text a ≡ message_view text b)
   decides_by_view-Message a b =
-      decides_as _ _ refl
-      (decides_and _ _ (by_text a.id.name b.id.name)
-      (decides_and _ _ (equality_of_values_decides a.value b.value)
-      (decides_and _ _ (equality_of_attributes_decides a.attributes.items b.attributes.items)
+      equal_test_decides_equivalent _ _ refl
+      (both_decisions_decide_and _ _ (by_text a.id.name b.id.name)
+      (both_decisions_decide_and _ _ (equality_of_values_decides a.value b.value)
+      (both_decisions_decide_and _ _ (equality_of_attributes_decides a.attributes.items b.attributes.items)
       (equality_of_comments_decides a.comment b.comment))))
       (λ h. cc) (λ q. (ap (λ x. x.id) q, (ap (λ x. x.value) q, (ap (λ x. x.attributes) q, ap (λ x. x.comment) q))))
 
   pub decides_by_view-Term : (a b : Term S.Denot) →
       Decides ((term_eq.ghosts S E dict).eq a b) (term_view text a ≡ term_view text b)
   decides_by_view-Term a b =
-      decides_as _ _ refl
-      (decides_and _ _ (by_text a.id.name b.id.name)
-      (decides_and _ _ (decides_by_view-Pattern a.value b.value)
-      (decides_and _ _ (equality_of_attributes_decides a.attributes.items b.attributes.items)
+      equal_test_decides_equivalent _ _ refl
+      (both_decisions_decide_and _ _ (by_text a.id.name b.id.name)
+      (both_decisions_decide_and _ _ (decides_by_view-Pattern a.value b.value)
+      (both_decisions_decide_and _ _ (equality_of_attributes_decides a.attributes.items b.attributes.items)
       (equality_of_comments_decides a.comment b.comment))))
       (λ h. cc) (λ q. (ap (λ x. x.id) q, (ap (λ x. x.value) q, (ap (λ x. x.attributes) q, ap (λ x. x.comment) q))))
 
   pub decides_by_view-Entry : (a b : Entry S.Denot) →
       Decides ((entry_eq.ghosts S E dict).eq a b) (entry_view text a ≡ entry_view text b)
   decides_by_view-Entry (entries.Message a) (entries.Message b) =
-      decides_as _ _ refl (decides_by_view-Message a b) (λ h. ap message h) (λ q. cc)
+      equal_test_decides_equivalent _ _ refl (decides_by_view-Message a b) (λ h. ap message h) (λ q. cc)
   decides_by_view-Entry (entries.Term a) (entries.Term b) =
-      decides_as _ _ refl (decides_by_view-Term a b) (λ h. ap term h) (λ q. cc)
+      equal_test_decides_equivalent _ _ refl (decides_by_view-Term a b) (λ h. ap term h) (λ q. cc)
   decides_by_view-Entry (entries.Comment a) (entries.Comment b) =
-      decides_as _ _ refl (decides_by_view-Comment a b) (λ h. ap (comment regular) h) (λ q. cc)
+      equal_test_decides_equivalent _ _ refl (decides_by_view-Comment a b) (λ h. ap (comment regular) h) (λ q. cc)
   decides_by_view-Entry (entries.GroupComment a) (entries.GroupComment b) =
-      decides_as _ _ refl (decides_by_view-Comment a b) (λ h. ap (comment group) h) (λ q. cc)
+      equal_test_decides_equivalent _ _ refl (decides_by_view-Comment a b) (λ h. ap (comment group) h) (λ q. cc)
   decides_by_view-Entry (entries.ResourceComment a) (entries.ResourceComment b) =
-      decides_as _ _ refl (decides_by_view-Comment a b) (λ h. ap (comment resource) h) (λ q. cc)
-  decides_by_view-Entry (entries.Junk x) (entries.Junk y) = decides_as _ _ refl (by_text x y) (λ h. ap junk h) (λ q. cc)
+      equal_test_decides_equivalent _ _ refl (decides_by_view-Comment a b) (λ h. ap (comment resource) h) (λ q. cc)
+  decides_by_view-Entry (entries.Junk x) (entries.Junk y) =
+      equal_test_decides_equivalent _ _ refl (by_text x y) (λ h. ap junk h) (λ q. cc)
   decides_by_view-Entry a b = false_decides_refuted _ refl (λ q. cc)
 
   pub decides_by_view-Resource : (a b : Resource S.Denot) →
       Decides ((resource_eq.ghosts S E dict).eq a b) (resource_view text a ≡ resource_view text b)
   decides_by_view-Resource a b =
-      list_decide (entry_eq.ghosts S E dict).eq (entry_view text) decides_by_view-Entry a.body.items b.body.items
+      equality_of_lists_is_decided (entry_eq.ghosts S E dict).eq (entry_view text) decides_by_view-Entry a.body.items
+      b.body.items

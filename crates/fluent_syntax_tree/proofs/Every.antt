@@ -40,9 +40,9 @@ every_holds_of_item_at_index P v (x ∷ xs) zero d h l = h.0
 every_holds_of_item_at_index P v (x ∷ xs) (suc i) d h l = every_holds_of_item_at_index P v xs i d h.1 (omega arith)
 
 -- of the element that a loop is at
-pub every_item : {A X : Type 0} (P : X → Type 0) (v : A → X) (xs items : List A) (i : ℕ) (d : A) →
+pub item_of_every_list_has_it : {A X : Type 0} (P : X → Type 0) (v : A → X) (xs items : List A) (i : ℕ) (d : A) →
     list_every P (map v xs) → items ≡ xs → i < length items → d ≡ get_or items i d → P (v d)
-every_item P v xs items i d h e l is =
+item_of_every_list_has_it P v xs items i d h e l is =
     subst (λ x. P (v x)) (sym is)
     (every_holds_of_item_at_index P v items i d (subst (λ ys. list_every P (map v ys)) (sym e) h) l)
 

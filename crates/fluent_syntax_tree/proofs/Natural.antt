@@ -43,10 +43,11 @@ use denote.Hole.Carrier as carrier
 abbrev WithClaim : {A : Type 0} → (A → Type 0) → Type 0
 WithClaim {A} P = (a : A) × P a
 
-pub map_fuses : {A B C : Type 0} (f : A → C) (g : A → B) (h : B → C) (xs : List A) → ((x : A) → f x ≡ h (g x)) →
+pub map_of_composition_is_maps : {A B C : Type 0} (f : A → C) (g : A → B) (h : B → C) (xs : List A) →
+    ((x : A) → f x ≡ h (g x)) →
     map f xs ≡ map h (map g xs)
-map_fuses f g h [] e = refl
-map_fuses f g h (x ∷ xs) e = rw (e x, map_fuses f g h xs e)
+map_of_composition_is_maps f g h [] e = refl
+map_of_composition_is_maps f g h (x ∷ xs) e = rw (e x, map_of_composition_is_maps f g h xs e)
 
 pub option_maps_fuse_into_one : {A B C : Type 0} (f : A → C) (g : A → B) (h : B → C) (o : Option A) →
     ((x : A) → f x ≡ h (g x)) → option_map f o ≡ option_map h (option_map g o)
@@ -214,12 +215,13 @@ module _ {S X Y : Type 0} (g : S → X) (f : X → Y) where
   natural-Attribute a = let e = natural-Pattern a.value in cc
 
   view_of_comment_is_natural : (c : Comment S) → comment_view fg c ≡ map f (comment_view g c)
-  view_of_comment_is_natural c = map_fuses fg g f c.content.items (λ x. refl)
+  view_of_comment_is_natural c = map_of_composition_is_maps fg g f c.content.items (λ x. refl)
 
   pub natural-Message : (m : Message S) → message_view fg m ≡ message_map f (message_view g m)
   natural-Message m =
       let v = option_maps_fuse_into_one (pattern_view fg) (pattern_view g) (pattern_map f) m.value natural-Pattern in
-      let a = map_fuses (attribute_view fg) (attribute_view g) (attribute_map f) m.attributes.items natural-Attribute in
+      let a = map_of_composition_is_maps (attribute_view fg) (attribute_view g) (attribute_map f) m.attributes.items
+      natural-Attribute in
       let c = option_maps_fuse_into_one (comment_view fg) (comment_view g)
       (map f) m.comment view_of_comment_is_natural in
       cc
@@ -227,7 +229,8 @@ module _ {S X Y : Type 0} (g : S → X) (f : X → Y) where
   pub natural-Term : (m : Term S) → term_view fg m ≡ term_map f (term_view g m)
   natural-Term m =
       let v = natural-Pattern m.value in
-      let a = map_fuses (attribute_view fg) (attribute_view g) (attribute_map f) m.attributes.items natural-Attribute in
+      let a = map_of_composition_is_maps (attribute_view fg) (attribute_view g) (attribute_map f) m.attributes.items
+      natural-Attribute in
       let c = option_maps_fuse_into_one (comment_view fg) (comment_view g)
       (map f) m.comment view_of_comment_is_natural in
       cc
@@ -241,4 +244,5 @@ module _ {S X Y : Type 0} (g : S → X) (f : X → Y) where
   natural-Entry (entries.Junk x) = refl
 
   pub natural-Resource : (r : Resource S) → resource_view fg r ≡ body_map f (resource_view g r)
-  natural-Resource r = map_fuses (entry_view fg) (entry_view g) (entry_map f) r.body.items natural-Entry
+  natural-Resource r =
+      map_of_composition_is_maps (entry_view fg) (entry_view g) (entry_map f) r.body.items natural-Entry

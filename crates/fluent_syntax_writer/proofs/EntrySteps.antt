@@ -41,7 +41,8 @@ written-last with_junk body e last follows last_is follows_is =
     ∙ ap (λ f. text_after None marks ++ text_after last (entry_marks with_junk f e)) (sym follows_is)
 
 module _ {T W : Type 0} {text : W → List ℕ} {room : W → ℕ} where
-  next-by : {start : W} {body : BodyTree Text} {old : EntryWriter W} {a b : TextWriter T W} (e : EntryTree Text)
+  entry_after_written_is_written : {start : W} {body : BodyTree Text} {old : EntryWriter W} {a b : TextWriter T W}
+      (e : EntryTree Text)
       (follows refused : Bool) → HasWritten text room start body old
       → Outcome text room a b (text_after a.last (entry_marks old.options.with_junk old.follows e))
       → a.sink.now ≡ old.sink → a.last ≡ old.last → a.refused ≡ old.refused → refused ≡ b.refused
@@ -52,7 +53,7 @@ module _ {T W : Type 0} {text : W → List ℕ} {room : W → ℕ} where
         follows = follows;
         refused = refused;
       })
-  next-by {start} {body} {old} {a} {b} e follows refused (whole on took last_is follows_is)
+  entry_after_written_is_written {start} {body} {old} {a} {b} e follows refused (whole on took last_is follows_is)
       (appended was now more last_now) at_sink at_last was_refused is_refused is =
       let with_junk = old.options.with_junk in
       let bytes = text_after a.last (entry_marks with_junk old.follows e) in
@@ -62,7 +63,8 @@ module _ {T W : Type 0} {text : W → List ℕ} {room : W → ℕ} where
       let joined = sym (last_of-append None (written with_junk body) bytes) ∙ ap (last_of None) (sym all) in
       whole (is_refused ∙ now) taken (last_now ∙ ap (λ l. last_of l bytes) (at_last ∙ last_is) ∙ joined)
       (is ∙ sym (follows_after-last false body e))
-  next-by {start} {body} {old} {a} {b} e follows refused (whole on took last_is follows_is) (stopped was now more)
+  entry_after_written_is_written {start} {body} {old} {a} {b} e follows refused (whole on took last_is follows_is)
+      (stopped was now more)
       at_sink at_last was_refused is_refused is =
       let with_junk = old.options.with_junk in
       let bytes = text_after a.last (entry_marks with_junk old.follows e) in
@@ -70,14 +72,18 @@ module _ {T W : Type 0} {text : W → List ℕ} {room : W → ℕ} where
       let rest = subst (λ w. TakesBeginning text room w b.sink.now bytes) at_sink more in
       let taken = TakesBeginning-after text room took rest in
       beginning (is_refused ∙ now) (subst (λ bs. TakesBeginning text room start b.sink.now bs) (sym all) taken)
-  next-by e follows refused (whole on took last_is follows_is) (silent was now same) at_sink at_last was_refused
+  entry_after_written_is_written e follows refused (whole on took last_is follows_is) (silent was now same) at_sink
+      at_last was_refused
       is_refused is =
       cc
-  next-by e follows refused (beginning off began) (appended was now more last_now) at_sink at_last was_refused
+  entry_after_written_is_written e follows refused (beginning off began) (appended was now more last_now) at_sink
+      at_last was_refused
       is_refused is =
       cc
-  next-by e follows refused (beginning off began) (stopped was now more) at_sink at_last was_refused is_refused is = cc
-  next-by {start} {body} {old} {a} {b} e follows refused (beginning off began) (silent was now same) at_sink at_last
+  entry_after_written_is_written e follows refused (beginning off began) (stopped was now more) at_sink at_last
+      was_refused is_refused is = cc
+  entry_after_written_is_written {start} {body} {old} {a} {b} e follows refused (beginning off began)
+      (silent was now same) at_sink at_last
       was_refused is_refused is =
       let with_junk = old.options.with_junk in
       let last = last_of None (written with_junk body) in
@@ -99,7 +105,7 @@ module _ {T W : Type 0} {text : W → List ℕ} {room : W → ℕ} where
         follows = follows;
         refused = refused;
       })
-  HasWritten-next e follows refused h k = next-by e follows refused h k.text_appended.outcome
+  HasWritten-next e follows refused h k = entry_after_written_is_written e follows refused h k.text_appended.outcome
 
 pub HasWritten-none : {W : Type 0} (text : W → List ℕ) (room : W → ℕ) (sink : W) (options : Options)
     → HasWritten text room sink [] (record {

@@ -8,8 +8,8 @@ use Rattle.fluent_syntax_grammar.specs.Joined.{joined_body}
 use Rattle.fluent_syntax_grammar.specs.RoundTrip.{ReadsAs, tree_of}
 use Rattle.fluent_syntax_grammar.specs.Tiling.{Fault}
 use Rattle.fluent_syntax_grammar.specs.Written.{Text, written}
-use Rattle.fluent_syntax_grammar.proofs.OneTiling.{same_tilings}
-use Rattle.fluent_syntax_grammar.proofs.marks.Again.{written_again}
+use Rattle.fluent_syntax_grammar.proofs.OneTiling.{tilings_of_text_are_same}
+use Rattle.fluent_syntax_grammar.proofs.marks.Again.{text_is_written_again}
 use Rattle.ftl.specs.Answer.{IsAnswer, outcome_with}
 use Rattle.ftl.specs.Formatted.{names, FormatsAgain}
 use Rattle.ftl.specs.declared.command.Command.TheVariants.{Format}
@@ -31,7 +31,7 @@ clean_outcome_has_no_faults (f ∷ fs) h = absurd cc
 module _ (t : Text) (tree : BodyTree Text) (reads : ReadsAs One t tree) (text : Text) (outcome : Outcome)
     (answer : IsAnswer Format t text outcome) where
   answer_has_tiles_of_reading : answer.tiles ≡ reads.tiles
-  answer_has_tiles_of_reading = same_tilings One t answer.tiles reads.tiles answer.has_tiles reads.tiling
+  answer_has_tiles_of_reading = tilings_of_text_are_same One t answer.tiles reads.tiles answer.has_tiles reads.tiling
 
   answer_is_clean : outcome ≡ Clean
   answer_is_clean = answer.outcome_is ∙ ap outcome_with (ap faults answer_has_tiles_of_reading ∙ reads.no_faults)
@@ -46,7 +46,7 @@ pub formatting_is_idempotent : (t : Text) → FormatsAgain t
 formatting_is_idempotent t formatted again outcome next first second canonical =
     let tree = tree_of t first.tiles in
     let whole = joined_body tree in
-    let law = written_again t first.tiles first.has_tiles canonical in
+    let law = text_is_written_again t first.tiles first.has_tiles canonical in
     let reads : ReadsAs One formatted whole =
     subst (λ x. ReadsAs One x whole) (sym first.text_is) law.0 in
     let is_written : again ≡ written false whole = answer_is_written_tree formatted whole reads again next second in

@@ -8,8 +8,8 @@ use Rattle.fluent_syntax_grammar.specs.Body.{faults}
 use Rattle.fluent_syntax_grammar.specs.RoundTrip.{ReadsAs, tree_of}
 use Rattle.fluent_syntax_grammar.specs.Tiling.{Tile, Tiling}
 use Rattle.fluent_syntax_grammar.specs.Written.{Text, written}
-use Rattle.fluent_syntax_grammar.proofs.OneTiling.{same_tilings}
-use Rattle.fluent_syntax_grammar.proofs.marks.Again.{written_again}
+use Rattle.fluent_syntax_grammar.proofs.OneTiling.{tilings_of_text_are_same}
+use Rattle.fluent_syntax_grammar.proofs.marks.Again.{text_is_written_again}
 use Rattle.fluent_syntax_grammar.proofs.marks.Entries.{written_is_read_back}
 use Rattle.ftl.specs.Answer.{normal_text}
 use Rattle.ftl.specs.BlankLines.{HasGaps, HasPlaces, IsKept, Keeps, KeepsAgain, ReadsAlike, gaps, places_of}
@@ -34,7 +34,7 @@ no_line_ends (b ∷ bytes) = refl
 module _ (edition : Edition) where
   pub gaps_of_text_are_unique : (t : Text) (xs ys : List Gap) → HasGaps edition t xs → HasGaps edition t ys → xs ≡ ys
   gaps_of_text_are_unique t xs ys (tiles, a, e) (others, b, f) =
-      e ∙ ap (gaps t) (same_tilings edition t tiles others a b) ∙ sym f
+      e ∙ ap (gaps t) (tilings_of_text_are_same edition t tiles others a b) ∙ sym f
 
   places_of_text_are_unique : (t : Text) (there : List Gap) (ps qs : List ℕ) → HasPlaces edition t there ps →
       HasPlaces edition t there qs → ps ≡ qs
@@ -137,13 +137,13 @@ module _ (edition : Edition) where
       (is_written : normal ≡ written false tree) where
     normal_text_has_the_tree : (tiles : List Tile) → Tiling edition normal tiles → tree_of normal tiles ≡ tree
     normal_text_has_the_tree tiles tiling =
-        ap (tree_of normal) (same_tilings edition normal tiles reads.tiles tiling reads.tiling) ∙ reads.same
+        ap (tree_of normal) (tilings_of_text_are_same edition normal tiles reads.tiles tiling reads.tiling) ∙ reads.same
 
     kept_text_has_the_tree : (kept : Text) → IsKept edition t normal kept → (tiles : List Tile) →
         Tiling edition kept tiles → tree_of kept tiles ≡ tree
     kept_text_has_the_tree kept (inl a) tiles tiling =
         let (kept_tiles, normal_tiles, kept_tiling, normal_tiling, same) = a.reads in
-        ap (tree_of kept) (same_tilings edition kept tiles kept_tiles tiling kept_tiling)
+        ap (tree_of kept) (tilings_of_text_are_same edition kept tiles kept_tiles tiling kept_tiling)
         ∙ (same ∙ normal_text_has_the_tree normal_tiles normal_tiling)
     kept_text_has_the_tree kept (inr a) tiles tiling =
         subst (λ k. (tiles : List Tile) → Tiling edition k tiles → tree_of k tiles ≡ tree)
@@ -171,7 +171,7 @@ normal_text_reads_as_tree : (edition : Edition) (t : Text) (tiles : List Tile) �
     ReadsAs edition (normal_text t tiles) (reread_tree edition (tree_of t tiles))
     × (normal_text t tiles ≡ written false (reread_tree edition (tree_of t tiles)))
 normal_text_reads_as_tree One t tiles tiling clean lossless =
-    let law = written_again t tiles tiling lossless in (law.0, sym (law.2 clean))
+    let law = text_is_written_again t tiles tiling lossless in (law.0, sym (law.2 clean))
 normal_text_reads_as_tree Two t tiles tiling clean lossless =
     (written_is_read_back Two (tree_of t tiles) false lossless, refl)
 

@@ -23,12 +23,13 @@ names_are_same (k ∷ kinds) (o ∷ others) same =
     cc
 
 -- kinds of one value have the same names
-same_names : (value : Option Data) (kinds others : List ReportedKind) → AreKinds value kinds → AreKinds value others →
+kinds_of_one_list_have_same_names : (value : Option Data) (kinds others : List ReportedKind) → AreKinds value kinds →
+    AreKinds value others →
     map reported_name kinds ≡ map reported_name others
-same_names value kinds others (inl one) (inl other) = rw (one.1, other.1) refl
-same_names value kinds others (inl one) (inr other) = let none = one.0 in cc
-same_names value kinds others (inr one) (inl other) = let none = other.0 in cc
-same_names value kinds others (inr one) (inr other) =
+kinds_of_one_list_have_same_names value kinds others (inl one) (inl other) = rw (one.1, other.1) refl
+kinds_of_one_list_have_same_names value kinds others (inl one) (inr other) = let none = one.0 in cc
+kinds_of_one_list_have_same_names value kinds others (inr one) (inl other) = let none = other.0 in cc
+kinds_of_one_list_have_same_names value kinds others (inr one) (inr other) =
     let items : items_of (map named kinds) ≡ items_of (map named others) = cc in
     names_are_same kinds others (items_of_lists_are_injective (map named kinds) (map named others) items)
 
@@ -60,5 +61,5 @@ pub common_by_values : (warn deny : Option Data) (warned denied others others' :
     AreKinds warn warned → AreKinds deny denied → AreKinds warn others → AreKinds deny others' →
     have_common_kind warned denied ≡ have_common_kind others others'
 common_by_values warn deny warned denied others others' one other one' other' =
-    common_by_names warned others denied others' (same_names warn warned others one one')
-    (same_names deny denied others' other other')
+    common_by_names warned others denied others' (kinds_of_one_list_have_same_names warn warned others one one')
+    (kinds_of_one_list_have_same_names deny denied others' other other')

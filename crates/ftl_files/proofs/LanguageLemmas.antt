@@ -27,16 +27,17 @@ abbrev IsFound : (languages path : List ℕ) → Option (Bor (List ℕ)) → Typ
 IsFound languages path r = MatchOption r ⊥ (λ language. IsLanguage languages path language.now)
 
 -- what a path begins with, before a `/`, is the folder of the language
-pub is_language : (languages name rest relative path front : List ℕ) (k : ℕ) (r : Option (Bor (List ℕ))) →
+pub language_at_front_is_found : (languages name rest relative path front : List ℕ) (k : ℕ)
+    (r : Option (Bor (List ℕ))) →
     path ≡ languages ++ codes "/" ++ relative → relative ≡ name ++ 47 ∷ rest → IsDirect name →
     path ≡ take (length path - k) path ++ rest → front ≡ take (length path - k) path →
     MatchOption r ((x : List ℕ) → front ≢ x ++ (47 ∷ [])) (λ x. front ≡ x.now ++ (47 ∷ [])) →
     IsFound languages path r
-is_language languages name rest relative path front k None place parts direct ends is strips =
+language_at_front_is_found languages name rest relative path front k None place parts direct ends is strips =
     let whole = path_is_joined languages name rest relative path place parts in
     let begins = path_is_front_and_ending rest path front k ends is in
     strips (languages ++ codes "/" ++ name) (append_cancel_right _ _ rest (sym begins ∙ whole))
-is_language languages name rest relative path front k (Some x) place parts direct ends is strips =
+language_at_front_is_found languages name rest relative path front k (Some x) place parts direct ends is strips =
     let whole = path_is_joined languages name rest relative path place parts in
     let begins = path_is_front_and_ending rest path front k ends is in
     let slash = append_cancel_right front (languages ++ codes "/" ++ name ++ codes "/") rest (sym begins ∙ whole) in

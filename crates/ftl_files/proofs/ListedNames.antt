@@ -27,11 +27,12 @@ module _ {A : Type 0} (named : A → Data) where
       list_of_names_has_no_other_value before value after things others other
 
   -- no things are listed where one value is no name
-  pub not_listed : (values : List Data) (before : List A) (value : Data) (after : List Data) (things : List A) →
+  pub name_in_none_is_not_listed : (values : List Data) (before : List A) (value : Data) (after : List Data)
+      (things : List A) →
       values ≡ map named before ++ value ∷ after → ((thing : A) → value ≢ named thing) →
       IsListed named (Some (array (items_of values))) things → ⊥
-  not_listed values before value after things at other (inl none) = cc
-  not_listed values before value after things at other (inr same) =
+  name_in_none_is_not_listed values before value after things at other (inl none) = cc
+  name_in_none_is_not_listed values before value after things at other (inr same) =
       let items : items_of values ≡ items_of (map named things) = cc in
       list_of_names_has_no_other_value (map named before) value after things
       (sym at ∙ items_of_lists_are_injective values (map named things) items) other

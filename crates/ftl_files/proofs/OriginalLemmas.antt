@@ -32,16 +32,17 @@ reference_is_original above own relative path (Ok (Some original)) place direct 
 }
 
 -- the relative path of what has an original
-original_is_language_and_rest : (above own path original relative : List ℕ) (o : IsOriginal above own path original) →
+relative_path_is_language_and_rest : (above own path original relative : List ℕ)
+    (o : IsOriginal above own path original) →
     path ≡ above ++ codes "/" ++ relative → relative ≡ o.language ++ o.rest
-original_is_language_and_rest above own path original relative o from =
+relative_path_is_language_and_rest above own path original relative o from =
     append_cancel_left (above ++ codes "/") relative (o.language ++ o.rest) (sym from ∙ o.path_is ∙ simp append_assoc)
 
 -- what is directly in a folder has no original where it is the reference
 pub no_original_of_reference : (above own path original relative : List ℕ) → IsOriginal above own path original →
     path ≡ above ++ codes "/" ++ relative → IsSplitOnceResult 47 relative None → relative ≢ own
 no_original_of_reference above own path original relative o from splits same =
-    let parts = original_is_language_and_rest above own path original relative o from in
+    let parts = relative_path_is_language_and_rest above own path original relative o from in
     ⊎_elim (λ none. o.other
     (sym (append-nil o.language) ∙ ap (λ l. o.language ++ l) (sym none) ∙ sym parts ∙ same))
     (λ below. split_after 47 relative o.language below.0 None splits (omega arith)
@@ -58,7 +59,7 @@ pub no_original_in_reference : (above own path original relative : List ℕ) (na
     IsOriginal above own path original → path ≡ above ++ codes "/" ++ relative → relative ≡ name.now ++ 47 ∷ rest.now →
     IsSplitOnceResult 47 relative (Some (name, rest)) → name.now ≢ own
 no_original_in_reference above own path original relative name rest o from cut splits same =
-    let parts = original_is_language_and_rest above own path original relative o from in
+    let parts = relative_path_is_language_and_rest above own path original relative o from in
     ⊎_elim (λ none. direct_name_has_no_slash name.now rest.now o.language o.direct
     (sym (append-nil o.language) ∙ ap (λ l. o.language ++ l) (sym none) ∙ sym parts ∙ cut))
     (λ below. let first = split_after 47 relative o.language below.0 (Some (name, rest)) splits (omega arith)

@@ -25,85 +25,96 @@ matches_by_meeting (byte ∷ pattern) (first ∷ name) =
     ]
 
 -- what holds of an end of an end holds of an end
-pub of_longer : (holds : List ℕ → Bool) (name : List ℕ) (k : ℕ) → of_some_end holds (drop k name) ≡ true →
+pub end_of_rest_is_end_of_name : (holds : List ℕ → Bool) (name : List ℕ) (k : ℕ) →
+    of_some_end holds (drop k name) ≡ true →
     of_some_end holds name ≡ true
-of_longer holds [] zero is = is
-of_longer holds [] (suc k) is = is
-of_longer holds (byte ∷ name) zero is = is
-of_longer holds (byte ∷ name) (suc k) is =
-    or_right (holds (byte ∷ name)) (of_some_end holds name) (of_longer holds name k is)
+end_of_rest_is_end_of_name holds [] zero is = is
+end_of_rest_is_end_of_name holds [] (suc k) is = is
+end_of_rest_is_end_of_name holds (byte ∷ name) zero is = is
+end_of_rest_is_end_of_name holds (byte ∷ name) (suc k) is =
+    or_right (holds (byte ∷ name)) (of_some_end holds name) (end_of_rest_is_end_of_name holds name k is)
 
 -- what holds of the rest of an end holds of an end of the rest
-rest_holds : (byte : ℕ) (holds : List ℕ → Bool) (first : ℕ) (name : List ℕ) (k : ℕ) →
+rest_that_holds_is_dropped : (byte : ℕ) (holds : List ℕ → Bool) (first : ℕ) (name : List ℕ) (k : ℕ) →
     of_rest byte holds (drop k (first ∷ name)) ≡ true → holds (drop k name) ≡ true
-rest_holds byte holds first name zero is = (and_parts (byte == first) (holds name) is).1
-rest_holds byte holds first [] (suc zero) is = cc
-rest_holds byte holds first [] (suc (suc k)) is = cc
-rest_holds byte holds first (next ∷ name) (suc k) is = rest_holds byte holds next name k is
+rest_that_holds_is_dropped byte holds first name zero is = (and_parts (byte == first) (holds name) is).1
+rest_that_holds_is_dropped byte holds first [] (suc zero) is = cc
+rest_that_holds_is_dropped byte holds first [] (suc (suc k)) is = cc
+rest_that_holds_is_dropped byte holds first (next ∷ name) (suc k) is =
+    rest_that_holds_is_dropped byte holds next name k is
 
 -- a pattern that begins with a `*`
-starred_further : (byte : ℕ) (pattern name more rest : List ℕ) (k : ℕ) → byte == 42 ≡ true →
+star_matches_what_rest_matches : (byte : ℕ) (pattern name more rest : List ℕ) (k : ℕ) → byte == 42 ≡ true →
     meeting (byte ∷ pattern) name ≡ star more rest → name_matches (byte ∷ pattern) (drop k name) ≡ true →
     of_some_end (name_matches more) rest ≡ true
-starred_further byte pattern name more rest k found met is =
+star_matches_what_rest_matches byte pattern name more rest k found met is =
     let starred = rw found at met in
     let same_more : pattern ≡ more = cc in
     let same_rest : name ≡ rest = cc in
-    rw (sym same_more, sym same_rest) (of_longer (name_matches pattern) name k (rw found at is))
+    rw (sym same_more, sym same_rest) (end_of_rest_is_end_of_name (name_matches pattern) name k (rw found at is))
 
 -- what follows the first `*` matches further on, if the whole does
-pub further : (pattern name more rest : List ℕ) (k : ℕ) → meeting pattern name ≡ star more rest →
+pub rest_matches_from_further_place : (pattern name more rest : List ℕ) (k : ℕ) →
+    meeting pattern name ≡ star more rest →
     name_matches pattern (drop k name) ≡ true → of_some_end (name_matches more) rest ≡ true
-further [] [] more rest k met is = cc
-further [] (byte ∷ name) more rest k met is = cc
-further (byte ∷ pattern) [] more rest k met is =
+rest_matches_from_further_place [] [] more rest k met is = cc
+rest_matches_from_further_place [] (byte ∷ name) more rest k met is = cc
+rest_matches_from_further_place (byte ∷ pattern) [] more rest k met is =
     elim (cases_Bool (byte == 42)) [
-      | inl found ↦ starred_further byte pattern [] more rest k found met is
+      | inl found ↦ star_matches_what_rest_matches byte pattern [] more rest k found met is
       | inr other ↦ let never = rw other at met in cc
     ]
-further (byte ∷ pattern) (first ∷ name) more rest k met is =
+rest_matches_from_further_place (byte ∷ pattern) (first ∷ name) more rest k met is =
     elim (cases_Bool (byte == 42)) [
-      | inl found ↦ starred_further byte pattern (first ∷ name) more rest k found met is
+      | inl found ↦ star_matches_what_rest_matches byte pattern (first ∷ name) more rest k found met is
       | inr other ↦ elim (cases_Bool (byte == first)) [
         | inl alike ↦
-            further pattern name more rest k (rw (other, alike) at met)
-            (rest_holds byte (name_matches pattern) first name k (rw other at is))
+            rest_matches_from_further_place pattern name more rest k (rw (other, alike) at met)
+            (rest_that_holds_is_dropped byte (name_matches pattern) first name k (rw other at is))
         | inr unlike ↦ let never = rw (other, unlike) at met in cc
       ]
     ]
 
-drop_next : (k : ℕ) (byte : ℕ) (end name : List ℕ) → byte ∷ end ≡ drop k name → end ≡ drop (suc k) name
-drop_next zero byte end [] at = cc
-drop_next zero byte end (first ∷ name) at = cc
-drop_next (suc k) byte end [] at = cc
-drop_next (suc k) byte end (first ∷ name) at = drop_next k byte end name at
+rest_after_first_is_dropped_next : (k : ℕ) (byte : ℕ) (end name : List ℕ) → byte ∷ end ≡ drop k name →
+    end ≡ drop (suc k) name
+rest_after_first_is_dropped_next zero byte end [] at = cc
+rest_after_first_is_dropped_next zero byte end (first ∷ name) at = cc
+rest_after_first_is_dropped_next (suc k) byte end [] at = cc
+rest_after_first_is_dropped_next (suc k) byte end (first ∷ name) at =
+    rest_after_first_is_dropped_next k byte end name at
 
-pub some_further : (pattern name more rest end : List ℕ) (k : ℕ) → meeting pattern name ≡ star more rest →
+pub some_end_matches_from_further_place : (pattern name more rest end : List ℕ) (k : ℕ) →
+    meeting pattern name ≡ star more rest →
     end ≡ drop k name → of_some_end (name_matches pattern) end ≡ true → of_some_end (name_matches more) rest ≡ true
-some_further pattern name more rest [] k met at is = further pattern name more rest k met (rw at at is)
-some_further pattern name more rest (byte ∷ end) k met at is =
+some_end_matches_from_further_place pattern name more rest [] k met at is =
+    rest_matches_from_further_place pattern name more rest k met (rw at at is)
+some_end_matches_from_further_place pattern name more rest (byte ∷ end) k met at is =
     elim (or_cases (name_matches pattern (byte ∷ end)) (of_some_end (name_matches pattern) end) is) [
-      | inl here ↦ further pattern name more rest k met (rw at at here)
-      | inr later ↦ some_further pattern name more rest end (suc k) met (drop_next k byte end name at) later
+      | inl here ↦ rest_matches_from_further_place pattern name more rest k met (rw at at here)
+      | inr later ↦
+          some_end_matches_from_further_place pattern name more rest end (suc k) met
+          (rest_after_first_is_dropped_next k byte end name at) later
     ]
 
 -- what matches here does so at some end
-pub of_whole : (holds : List ℕ → Bool) (name : List ℕ) → holds name ≡ true → of_some_end holds name ≡ true
-of_whole holds [] is = is
-of_whole holds (byte ∷ name) is = or_left (holds (byte ∷ name)) (of_some_end holds name) is
+pub whole_that_holds_is_some_end : (holds : List ℕ → Bool) (name : List ℕ) → holds name ≡ true →
+    of_some_end holds name ≡ true
+whole_that_holds_is_some_end holds [] is = is
+whole_that_holds_is_some_end holds (byte ∷ name) is = or_left (holds (byte ∷ name)) (of_some_end holds name) is
 
-same_tests : (a b : Bool) → (a ≡ true → b ≡ true) → (b ≡ true → a ≡ true) → a ≡ b
-same_tests true b on back = sym (on refl)
-same_tests false true on back = back refl
-same_tests false false on back = refl
+tests_that_imply_each_other_are_same : (a b : Bool) → (a ≡ true → b ≡ true) → (b ≡ true → a ≡ true) → a ≡ b
+tests_that_imply_each_other_are_same true b on back = sym (on refl)
+tests_that_imply_each_other_are_same false true on back = back refl
+tests_that_imply_each_other_are_same false false on back = refl
 
 -- the first place is the best one
 pub first_is_best : (pattern name more rest : List ℕ) → meeting pattern name ≡ star more rest →
     of_some_end (name_matches more) rest ≡ of_some_end (name_matches pattern) name
 first_is_best pattern name more rest met =
-    same_tests _ _
-    (λ is. of_whole (name_matches pattern) name (matches_by_meeting pattern name ∙ ap matches_on met ∙ is))
-    (some_further pattern name more rest name zero met refl)
+    tests_that_imply_each_other_are_same _ _
+    (λ is. whole_that_holds_is_some_end (name_matches pattern) name
+    (matches_by_meeting pattern name ∙ ap matches_on met ∙ is))
+    (some_end_matches_from_further_place pattern name more rest name zero met refl)
 
 starred_is_shorter : (byte : ℕ) (pattern name more rest : List ℕ) → byte == 42 ≡ true →
     meeting (byte ∷ pattern) name ≡ star more rest →
@@ -135,10 +146,10 @@ star_is_shorter (byte ∷ pattern) (first ∷ name) more rest met =
     ]
 
 -- where the pattern differs, it matches further on, if at all
-pub further_end : (pattern name : List ℕ) → meeting pattern name ≡ differs → 1 ≤ length name →
+pub some_end_matches_before_last_byte : (pattern name : List ℕ) → meeting pattern name ≡ differs → 1 ≤ length name →
     of_some_end (name_matches pattern) (take (length name - 1) (drop 1 name)) ≡ of_some_end (name_matches pattern) name
-further_end pattern [] met some = absurd (omega arith)
-further_end pattern (byte ∷ name) met some =
+some_end_matches_before_last_byte pattern [] met some = absurd (omega arith)
+some_end_matches_before_last_byte pattern (byte ∷ name) met some =
     let fails = matches_by_meeting pattern (byte ∷ name) ∙ ap matches_on met in
     rw fails (ap (of_some_end (name_matches pattern)) (take_all (length (byte ∷ name) - 1) name (omega arith)))
 

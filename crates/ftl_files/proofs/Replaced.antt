@@ -5,15 +5,15 @@ use Rattle.std.proofs.lemmas.Option.{MatchOption-at_some}
 use Rattle.ftl_files.specs.Files.{Changes, Files, GoesOn, IsDurable, IsNamed, IsSynced, at_free_paths}
 use Rattle.ftl_files.specs.Files.{at_path, filled, nowhere, renamed, replaced}
 use Rattle.ftl_files.specs.Store.{AllUnchanged, Becomes}
-use Rattle.ftl_files.proofs.Steps.{AreSomeOf, then}
+use Rattle.ftl_files.proofs.Steps.{AreSomeOf, GoesOn-trans}
 
 -- what a call that changes nothing has left
 pub nowhere_leaves_all_unchanged : (old new : Files) → GoesOn old new nowhere → AllUnchanged old.bytes_at new.bytes_at
 nowhere_leaves_all_unchanged old new one path = ⊎_elim (λ same. same) (λ none. absurd none) (one.bytes path)
 
-known : (o : Option (List ℕ)) (P : Type 0) → IfSome o (λ _. P) → (o ≡ None) ⊎ P
-known None P is = inl refl
-known (Some bytes) P is = inr is
+known_none_or_fact : (o : Option (List ℕ)) (P : Type 0) → IfSome o (λ _. P) → (o ≡ None) ⊎ P
+known_none_or_fact None P is = inl refl
+known_none_or_fact (Some bytes) P is = inr is
 
 IfSome-weaker : (o : Option (List ℕ)) (P Q : Type 0) → IfSome o (λ _. P) → (P → Q) → IfSome o (λ _. Q)
 IfSome-weaker None P Q is so = tt
@@ -28,19 +28,25 @@ module _ (old synced : Files) (temporary path text : List ℕ) where
   renaming_is_some_of_filling written is_synced at left (inr (same, (bytes, is, inl had_bytes))) =
       inr (same, λ had known. is ∙ sym had_bytes ∙ written had known)
   renaming_is_some_of_filling written is_synced at left (inr (same, (bytes, is, inr held))) =
-      inr (same, λ had known. is ∙ ap Some (is_synced (had ++ text) (written had known) bytes held))
+      inr (
+        same,
+        λ had known. is ∙
+            ap Some (is_synced (had ++ text) (written had known) bytes held),
+      )
 
 -- the file was filled and has the name
-pub filling : (old written synced new : Files) (temporary path text : List ℕ) → GoesOn old written (at_path temporary) →
+pub written_and_synced_file_replaces : (old written synced new : Files) (temporary path text : List ℕ) →
+    GoesOn old written (at_path temporary) →
     GoesOn written synced nowhere → GoesOn synced new (renamed synced temporary path) →
     ((bytes : List ℕ) → old.bytes_at temporary ≡ Some bytes → written.bytes_at temporary ≡ Some (bytes ++ text)) →
     IsSynced synced temporary → GoesOn old new (filled old temporary path text)
-filling old written synced new temporary path text write sync rename has_text is_synced =
+written_and_synced_file_replaces old written synced new temporary path text write sync rename has_text is_synced =
     let part = renaming_is_some_of_filling old synced temporary path text
-    (λ bytes known. nowhere_leaves_all_unchanged written synced sync temporary ∙ has_text bytes known) is_synced in
-    let two = then old written synced (at_path temporary) nowhere (filled old temporary path text) write sync
+    (λ bytes known. nowhere_leaves_all_unchanged written synced sync temporary ∙
+    has_text bytes known) is_synced in
+    let two = GoesOn-trans old written synced (at_path temporary) nowhere (filled old temporary path text) write sync
     (λ p left is. inl is) (λ p left none. absurd none) in
-    then old synced new (filled old temporary path text)
+    GoesOn-trans old synced new (filled old temporary path text)
     (renamed synced temporary path) (filled old temporary path text) two rename
     (λ p left is. is) part
 
@@ -51,7 +57,7 @@ pub filled_is_in_replaced : (old made : Files) (temporary path text : List ℕ) 
 filled_is_in_replaced old made temporary path text free empty at left (inl same) = inl (ap old.bytes_at same ∙ free)
 filled_is_in_replaced old made temporary path text free empty at left (inr (same, comes)) = ⊎_elim
     (λ none. inl (ap old.bytes_at same ∙ none)) (λ is_empty. inr (same, comes [] is_empty))
-    (known (old.bytes_at path) (made.bytes_at temporary ≡ Some []) empty)
+    (known_none_or_fact (old.bytes_at path) (made.bytes_at temporary ≡ Some []) empty)
 
 -- a file that was not there before is removed
 pub removal_is_part_of_replaced : (old : Files) (temporary path text : List ℕ) → old.bytes_at temporary ≡ None →
@@ -70,9 +76,9 @@ pub making_and_filling_is_replacing : (old made mid new : Files) (temporary path
     IfSome (old.bytes_at path) (λ _. made.bytes_at temporary ≡ Some []) → GoesOn old new (replaced old path text)
 making_and_filling_is_replacing old made mid new temporary path text last first second third is_part free empty =
     let all = replaced old path text in
-    let two = then old made mid (at_free_paths old) (filled made temporary path text) all first second
+    let two = GoesOn-trans old made mid (at_free_paths old) (filled made temporary path text) all first second
     (λ p left none. inl none) (filled_is_in_replaced old made temporary path text free empty) in
-    then old mid new all last all two third (λ p left is. is) is_part
+    GoesOn-trans old mid new all last all two third (λ p left is. is) is_part
 
 -- the text is on the disk, and so is its name
 pub replaced_file_is_durable : (old made mid new : Files) (temporary path text : List ℕ) →

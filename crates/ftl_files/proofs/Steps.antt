@@ -7,9 +7,9 @@ abbrev pub AreSomeOf : (some all : Changes) → Type 0
 AreSomeOf some all = (path : List ℕ) (left : Option (List ℕ)) → some path left → all path left
 
 -- one call, and then another
-pub then : (old mid new : Files) (first next all : Changes) → GoesOn old mid first → GoesOn mid new next →
+pub GoesOn-trans : (old mid new : Files) (first next all : Changes) → GoesOn old mid first → GoesOn mid new next →
     AreSomeOf first all → AreSomeOf next all → GoesOn old new all
-then old mid new first next all one two is_first is_next = record {
+GoesOn-trans old mid new first next all one two is_first is_next = record {
   later = omega (arith, one.later, two.later);
   bytes = λ path. ⊎_elim
       (λ same. ⊎_elim (λ was. inl (same ∙ was)) (λ came. inr (is_first path (new.bytes_at path)

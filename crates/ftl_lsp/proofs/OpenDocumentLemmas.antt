@@ -16,9 +16,10 @@ option_map-cond f true x y = refl
 option_map-cond f false x y = refl
 
 -- a map of documents that was changed under a name
-pub sets : (m n : BTreeMap (String Global) OpenDocument) (name : List ℕ) (found : Option OpenDocument) →
+pub texts_of_updated_map_are_set : (m n : BTreeMap (String Global) OpenDocument) (name : List ℕ)
+    (found : Option OpenDocument) →
     UpdatesBy string_cmp (λ k. slice_cmp nat_cmp name (string_bytes k)) m n found →
     Sets (texts_of m) name (option_map open_text found) (texts_of n)
-sets m n name found updates other =
+texts_of_updated_map_are_set m n name found updates other =
     ap (option_map open_text) (btree_map_updates_text name m n found updates other)
     ∙ option_map-cond open_text _ found _

@@ -59,9 +59,9 @@ answered_session_is_in_phase phase before old method after same =
     ∙ ap (λ (s : Session). in_phase (after_request s.phase method) s) same
 
 -- a document that was opened is open
-pub is_open : (old new : List ℕ → Option OpenText) (uri : List ℕ) (found : OpenText) →
+pub document_that_is_set_is_open : (old new : List ℕ → Option OpenText) (uri : List ℕ) (found : OpenText) →
     Sets old uri (Some found) new → new uri ≡ Some found
-is_open old new uri found sets =
+document_that_is_set_is_open old new uri found sets =
     sets uri ∙ update_same bytes_eq old uri (Some found) uri ((bytes_eq-Decides uri uri).1 refl)
 
 pub named_document_is_open : (texts : List ℕ → Option OpenText) (d : Data) (uri : List ℕ) → uri_in d ≡ Some uri →
@@ -140,13 +140,14 @@ empty_list_withdraws_diagnostics uri value list is none =
     equal_value_is_sent (withdrawn uri) value _ (is ∙ ap (diagnostics_form uri) none) (sends_withdrawal uri)
 
 -- the diagnostics of a document that is open are reported, after what was done before
-pub republishes : {Y : Type 0} (r : Result (Option Value) Y) (old : List ℕ → Option OpenText) (d : Data)
+pub diagnosed_document_is_sent_while_running : {Y : Type 0} (r : Result (Option Value) Y)
+    (old : List ℕ → Option OpenText) (d : Data)
     (method : Option Method) (uri : List ℕ) (found : OpenText) (mid new : Session) → mid.texts uri ≡ Some found →
     ((texts : List ℕ → Option OpenText) → texts ≡ mid.texts
     → HandlesNotification old d method (diagnosed uri found.text) texts) →
     OnOk r (new ≡ mid) → IfOk r (λ sent. IsSent (published uri (mid.texts uri)) (option_map view sent)) →
     IfOk r (λ sent. SendsWhileRunning old d method (option_map view sent) new.texts)
-republishes r old d method uri found mid new open' follows same sent =
+diagnosed_document_is_sent_while_running r old d method uri found mid new open' follows same sent =
     IfOk-with r _ _ _
     (λ e x h. (
       diagnosed uri found.text,
@@ -165,8 +166,9 @@ pub opened_text_is_published : {Y : Type 0} (r : Result (Option Value) Y) (d : D
 opened_text_is_published r d uri text version old mid new named stated numbered sets same sent =
     let made = subst
     (λ (n : Option ℤ). Sets old.texts uri (Some (record { text = text; version = n })) mid.texts) numbered sets in
-    republishes r old.texts d (Some DidOpen) uri (record { text = text; version = version }) mid new
-    (is_open old.texts mid.texts uri _ sets)
+    diagnosed_document_is_sent_while_running r old.texts d (Some DidOpen) uri
+    (record { text = text; version = version }) mid new
+    (document_that_is_set_is_open old.texts mid.texts uri _ sets)
     (λ now e. opens uri text now named stated
     (subst
     (λ (t : List ℕ → Option OpenText). Sets old.texts uri (Some (record { text = text; version = version_in d })) t)
@@ -182,7 +184,8 @@ pub changed_text_is_published : {Y : Type 0} (r : Result (Option Value) Y) (d : 
     IfOk r (λ sent. SendsWhileRunning old.texts d (Some DidChange) (option_map view sent) new.texts)
 changed_text_is_published r d uri items edits version true old mid new named stated is_read numbered open'
     (before, after, was, makes, sets) same sent =
-    republishes r old.texts d (Some DidChange) uri after mid new (is_open old.texts mid.texts uri after sets)
+    diagnosed_document_is_sent_while_running r old.texts d (Some DidChange) uri after mid new
+    (document_that_is_set_is_open old.texts mid.texts uri after sets)
     (λ now e. changes uri items edits before after now named stated is_read was
     (subst (λ (n : Option ℤ). MakesOpen before n edits after) numbered makes)
     (subst (λ (t : List ℕ → Option OpenText). Sets old.texts uri (Some after) t) (sym e) sets))
@@ -225,19 +228,22 @@ found_code_refuses method fitting found code refuses is =
     subst (λ (r : Result Value ErrorCode). IfErr r (RefusesFor method fitting)) is refuses
 
 -- a request that was taken after something that changes nothing of the session
-pub takes_request : {Y : Type 0} (r : Result (Option Value) Y) (old mid new : Session) (body : List ℕ)
+pub request_by_method_is_sent_for_message : {Y : Type 0} (r : Result (Option Value) Y) (old mid new : Session)
+    (body : List ℕ)
     (d id same_id : Data) (name : List ℕ) (method : Option Method) → read body ≡ Some d →
     message_in d ≡ request id name → same_id ≡ id → IsMethod name method → mid ≡ old →
     IfOk r (λ sent. SendsForRequest mid same_id d method (option_map view sent) new) →
     IfOk r (λ sent. SendsForMessage old body (option_map view sent) new)
-takes_request (Ok sent) old mid new body d id same_id name method is_read asked same named before (reply, is, takes) = (
-  reply,
-  is,
-  requested d id name method reply new is_read asked named
-      (subst (λ (s : Session). TakesRequest s id d method reply new) before
-      (subst (λ (i : Data). TakesRequest mid i d method reply new) same takes)),
-)
-takes_request (Err e) old mid new body d id same_id name method is_read asked same named before h = h
+request_by_method_is_sent_for_message (Ok sent) old mid new body d id same_id name method is_read asked same named
+    before (reply, is, takes) = (
+      reply,
+      is,
+      requested d id name method reply new is_read asked named
+          (subst (λ (s : Session). TakesRequest s id d method reply new) before
+          (subst (λ (i : Data). TakesRequest mid i d method reply new) same takes)),
+    )
+request_by_method_is_sent_for_message (Err e) old mid new body d id same_id name method is_read asked same named before
+    h = h
 
 pub session_takes_notification : {Y : Type 0} (r : Result (Option Value) Y) (old new : Session) (body : List ℕ)
     (d : Data) (name : List ℕ) (method : Option Method) → read body ≡ Some d →
@@ -310,14 +316,14 @@ diagnostics_are_republished_if_open : (session : Session) (uri : List ℕ) (foun
     session.phase ≡ Running → session.texts uri ≡ found → IsSent (published uri found) (Some value) →
     Republishes session value
 diagnostics_are_republished_if_open session uri (Some found) value running open' sent =
-    record { runs = running; uri = uri; found = found; is_open = open'; diagnostics = sent }
+    record { runs = running; uri = uri; found = found; document_that_is_set_is_open = open'; diagnostics = sent }
 diagnostics_are_republished_if_open session uri None value running open' sent = elim sent [ ]
 
 -- what is published of a document is reported of one that is open
-pub publishes_open : {Y : Type 0} (r : Result (Option Value) Y) (session : Session) (uri : List ℕ) →
+pub published_text_is_republished : {Y : Type 0} (r : Result (Option Value) Y) (session : Session) (uri : List ℕ) →
     session.phase ≡ Running → IfOk r (λ sent. IsSent (published uri (session.texts uri)) (option_map view sent)) →
     IfOk r (λ sent. IfSome sent (λ value. Republishes session (view value)))
-publishes_open (Ok (Some value)) session uri running sent =
+published_text_is_republished (Ok (Some value)) session uri running sent =
     diagnostics_are_republished_if_open session uri _ (view value) running refl sent
-publishes_open (Ok None) session uri running sent = tt
-publishes_open (Err e) session uri running sent = sent
+published_text_is_republished (Ok None) session uri running sent = tt
+published_text_is_republished (Err e) session uri running sent = sent

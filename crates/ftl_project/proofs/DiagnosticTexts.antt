@@ -21,17 +21,19 @@ IsDiagnostic-as form path own place kind own_kind name message words report_text
     (subst (λ k. IsDiagnostic form path place k name words report_text) same_kind
     (subst (λ m. IsDiagnostic form path place kind name m report_text) same_message diagnostic))
 
-pub report_as : {E : Type 0} (result : Result (String Global) E) (form : Form) (path own : List ℕ)
+pub report_of_equal_parts_is_report : {E : Type 0} (result : Result (String Global) E) (form : Form) (path own : List ℕ)
     (place : Option SourceLocation) (kind own_kind : List ℕ) (name : Option (List ℕ)) (message words : List ℕ) →
     path ≡ own → kind ≡ own_kind → message ≡ words →
     IfOk result (λ report_text. IsDiagnostic form path place kind name message (string_bytes report_text)) →
     IfOk result (λ report_text. IsDiagnostic form own place own_kind name words (string_bytes report_text))
-report_as (Ok report_text) form path own place kind own_kind name message words same_path same_kind same_message
+report_of_equal_parts_is_report (Ok report_text) form path own place kind own_kind name message words same_path
+    same_kind same_message
     diagnostic =
     IsDiagnostic-as form path own place kind own_kind name message words
     (string_bytes report_text) same_path same_kind same_message
     diagnostic
-report_as (Err error) form path own place kind own_kind name message words same_path same_kind same_message
+report_of_equal_parts_is_report (Err error) form path own place kind own_kind name message words same_path same_kind
+    same_message
     diagnostic = tt
 
 -- What is reported of a finding in the file that has it.

@@ -5,7 +5,7 @@ use Rattle.std.proofs.Common.{refl, string_bytes, subst, sym, ⊎_elim}
 use Rattle.std.proofs.lemmas.List.Elements.{All-cons}
 use Rattle.std.specs.Global.{Global}
 use Rattle.std.specs.Prelude.{String}
-use Rattle.fluent_syntax_grammar.proofs.OneTiling.{same_tilings}
+use Rattle.fluent_syntax_grammar.proofs.OneTiling.{tilings_of_text_are_same}
 use Rattle.fluent_syntax_grammar.specs.Body.{faults}
 use Rattle.fluent_syntax_grammar.specs.RoundTrip.{tree_of}
 use Rattle.fluent_syntax_grammar.specs.Tiling.{Fault, Tile, Tiling}
@@ -22,7 +22,8 @@ use Rattle.ftl.specs.declared.outcome.Outcome.TheVariants.{Clean}
 use Rattle.ftl_files.specs.declared.options.BlankLines.{BlankLines}
 use Rattle.ftl_files.specs.declared.options.BlankLines.TheVariants.{Keep, Normal}
 use Rattle.ftl_project.proofs.Statuses.{status_of_fault_is_at_least_three}
-use Rattle.ftl_project.proofs.Reaching.{AllReach-rewrites, AllReach-untouched, AllReach-trans, becomes_rewriting}
+use Rattle.ftl_project.proofs.Reaching.{AllReach-rewrites, AllReach-untouched, AllReach-trans}
+use Rattle.ftl_project.proofs.Reaching.{file_that_becomes_rewriting_reaches_it}
 use Rattle.ftl_project.specs.Errors.{IsRefused}
 use Rattle.ftl_project.specs.Faults.{Failing, IsRead}
 use Rattle.ftl_project.specs.Formatting.{AllNormal, FormatsEach, IsProcessed, IsNormal}
@@ -54,7 +55,7 @@ tiles_of_rewritten_are_its_tiles : (options : FormatOptions) (bytes t : Text) (a
     (tiles : List Tile) → Tiling options.reading.edition bytes tiles → tiles ≡ a.answer.tiles
 tiles_of_rewritten_are_its_tiles options bytes t a tiles tiling =
     let edition = options.reading.edition in
-    same_tilings edition bytes tiles a.answer.tiles tiling
+    tilings_of_text_are_same edition bytes tiles a.answer.tiles tiling
     (answer_has_tiles_of_text edition bytes a.normal Clean a.answer)
 
 -- there is one normal text
@@ -163,25 +164,29 @@ module _ (options : FormatOptions) (bytes t : Text) (a : IsRewriting options byt
   text_read_from_file_is_its_bytes now read is e = subst (λ o. IsRead o read) e is
 
 -- What was not a fault leaves it as that.
-rewrites_normal : (CallFails : Failing) (options : FormatOptions) (path : List ℕ) (old new : List ℕ → Option (List ℕ))
+rewritten_file_is_normal : (CallFails : Failing) (options : FormatOptions) (path : List ℕ)
+    (old new : List ℕ → Option (List ℕ))
     (result : Replacement) (bytes t : Text) → IsRewriting options bytes t →
     Rewrites CallFails options path old new (Ok result) → (old path ≡ Some bytes) ⊎ (old path ≡ Some t) →
     new path ≡ Some t
-rewrites_normal CallFails options path old new (replacement.Text text) bytes t a (read, is_read, that, puts) is =
+rewritten_file_is_normal CallFails options path old new (replacement.Text text) bytes t a (read, is_read, that, puts)
+    is =
     file_becomes_rewritten_text options bytes t a (old path) (new path) is
-    (becomes_rewriting options (old path) (new path) read (string_bytes text) is_read that.0 puts.0)
-rewrites_normal CallFails options path old new replacement.Same bytes t a (read, is_read, that, untouched) is =
+    (file_that_becomes_rewriting_reaches_it options (old path) (new path) read (string_bytes text) is_read that.0
+    puts.0)
+rewritten_file_is_normal CallFails options path old new replacement.Same bytes t a (read, is_read, that, untouched) is =
     untouched path ∙ ⊎_elim
     (λ e. e ∙ ap Some (rewriting_is_unique options bytes t bytes a (subst (λ b. IsRewriting options b b)
     (text_read_from_file_is_its_bytes options bytes t a (old path) read is_read e) that))) (λ e. e) is
-rewrites_normal CallFails options path old new (replacement.Errors refused) bytes t a
+rewritten_file_is_normal CallFails options path old new (replacement.Errors refused) bytes t a
     (read, is_read, that, untouched) is =
     untouched path ∙ ⊎_elim
     (λ e. absurd (rewritten_text_is_not_refused options bytes t refused.errors.items a (subst
     (λ b. IsRefused options.reading.edition b refused.errors.items)
     (text_read_from_file_is_its_bytes options bytes t a (old path) read is_read e) that)))
     (λ e. e) is
-rewrites_normal CallFails options path old new (replacement.Lossy entry) bytes t a (read, is_read, that, untouched) is =
+rewritten_file_is_normal CallFails options path old new (replacement.Lossy entry) bytes t a
+    (read, is_read, that, untouched) is =
     untouched path ∙ ⊎_elim
     (λ e. absurd (rewriting_is_not_lossy options bytes t entry a (subst (λ b. IsLossy options.reading.edition b entry)
     (text_read_from_file_is_its_bytes options bytes t a (old path) read is_read e) that))) (λ e. e) is
@@ -244,7 +249,7 @@ AllNormal-each CallFails options (file ∷ files) start old new before after rea
     All-cons (λ file. IsNormal options (start (string_bytes file)) (new (string_bytes file))) file files
     (IsNormal-at options (start path) (new path)
     (λ bytes t e a. rewritten_file_stays_rewritten options bytes t a (now path) (new path)
-    (beyond path) (rewrites_normal CallFails options path old now ok.0 bytes t a rewrites
+    (beyond path) (rewritten_file_is_normal CallFails options path old now ok.0 bytes t a rewrites
     (reached_file_is_old_or_rewritten options bytes t a (start path) (old path) (reach path) (inl e)))))
     (AllNormal-each CallFails options files start now new between after (AllReach-trans options start old now reach
     step) rest

@@ -41,10 +41,11 @@ module _ (options : FormatOptions) where
       (others other)
 
 -- The text that is there now is a rewriting of the bytes that were known.
-pub becomes_rewriting : (options : FormatOptions) (old new : Option (List ℕ)) (read text : List ℕ) → IsRead old read →
+pub file_that_becomes_rewriting_reaches_it : (options : FormatOptions) (old new : Option (List ℕ))
+    (read text : List ℕ) → IsRead old read →
     IsRewriting options read text → Becomes old new text → BecomesRewriting options old new
-becomes_rewriting options None new read text is rewrites becomes = tt
-becomes_rewriting options (Some bytes) new read text is rewrites becomes =
+file_that_becomes_rewriting_reaches_it options None new read text is rewrites becomes = tt
+file_that_becomes_rewriting_reaches_it options (Some bytes) new read text is rewrites becomes =
     (text, subst (λ b. IsRewriting options b text) is rewrites, becomes)
 
 -- what one file has come to after its rewriting, and the others
@@ -52,7 +53,8 @@ pub AllReach-rewrites : (CallFails : Failing) (options : FormatOptions) (path : 
     (old new : List ℕ → Option (List ℕ)) (result : Result Replacement Fault) →
     Rewrites CallFails options path old new result → AllReach options old new
 AllReach-rewrites CallFails options path old new (Ok (replacement.Text text)) (read, is, that, puts) =
-    file_alone_changed_is_reached options old new path (goes stays (becomes_rewriting options (old path) (new path) read
+    file_alone_changed_is_reached options old new path
+    (goes stays (file_that_becomes_rewriting_reaches_it options (old path) (new path) read
     (string_bytes text) is that.0 puts.0)) puts.1
 AllReach-rewrites CallFails options path old new (Ok replacement.Same) done =
     AllReach-untouched options old new done.3

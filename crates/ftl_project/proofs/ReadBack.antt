@@ -3,7 +3,7 @@ use Rattle.std.proofs.Common.{◌≡◌, ◌∙◌, IsUtf8, ap, false, subst, sy
 use Rattle.fluent_syntax_grammar.specs.Body.{faults}
 use Rattle.fluent_syntax_grammar.specs.RoundTrip.{ReadsAs, ReadsBack, tree_of}
 use Rattle.fluent_syntax_grammar.specs.Written.{Text, written}
-use Rattle.fluent_syntax_grammar.proofs.OneTiling.{same_tilings}
+use Rattle.fluent_syntax_grammar.proofs.OneTiling.{tilings_of_text_are_same}
 use Rattle.fluent_syntax_tree.specs.Entry.{BodyTree}
 use Rattle.fluent_syntax_tree.specs.declared.edition.Edition.{Edition}
 use Rattle.fluent_syntax_tree.specs.declared.edition.Edition.TheVariants.{One, Two}
@@ -19,7 +19,7 @@ use Rattle.ftl_project.specs.declared.formatting.replacement.FormatOptions.{Form
 text_of_tree_settles : (text : Text) (tree : BodyTree Text) → ReadsAs Two text tree → text ≡ written false tree →
     Settles Two tree text
 text_of_tree_settles text tree reads is_written again next second =
-    let same = same_tilings Two text second.tiles reads.tiles second.has_tiles reads.tiling in
+    let same = tilings_of_text_are_same Two text second.tiles reads.tiles second.has_tiles reads.tiling in
     let same_tree = ap (tree_of text) same ∙ reads.same in (
       second.outcome_is ∙ ap outcome_with (ap faults same ∙ reads.no_faults),
       same_tree,
@@ -59,11 +59,11 @@ normal_text_of_lossless_tree_settles Two t text tree utf8 reads is_written lossl
       subst (λ r. Settles Two r text) (sym reads.same) (text_of_tree_settles text tree reads_back is_written),
     )
 
-pub is_rewriting : (options : FormatOptions) (t normal text : Text) (tree : BodyTree Text) → IsUtf8 t →
+pub normal_text_is_rewriting : (options : FormatOptions) (t normal text : Text) (tree : BodyTree Text) → IsUtf8 t →
     ReadsAs options.reading.edition t tree → normal ≡ written false tree →
     is_lossless options.reading.edition tree ≡ true → FormatsAgain t → ReadsBack Two tree →
     IsWritten options.blank_lines options.reading.edition t normal text → IsRewriting options t text
-is_rewriting options t normal text tree utf8 reads is_written lossless law back is =
+normal_text_is_rewriting options t normal text tree utf8 reads is_written lossless law back is =
     let (answer, safe, settles) =
     normal_text_of_lossless_tree_settles options.reading.edition t normal tree utf8 reads is_written lossless law
     back in

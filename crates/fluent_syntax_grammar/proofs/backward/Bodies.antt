@@ -21,8 +21,8 @@ use Rattle.fluent_syntax_grammar.specs.Joined.{joined_message, joined_term, join
 use Rattle.fluent_syntax_grammar.specs.RoundTrip.{HasNoBareCr, HasNoCr, JoinedIsReadable, JoinedIsSame}
 use Rattle.fluent_syntax_grammar.specs.RoundTrip.{JoinedIsCanonical, tree_of}
 use Rattle.fluent_syntax_grammar.proofs.FurtherRules.{readable_is_canonical_by_further_rules}
-use Rattle.fluent_syntax_grammar.proofs.Facts.{differs}
-use Rattle.fluent_syntax_grammar.proofs.Tests.{both_true}
+use Rattle.fluent_syntax_grammar.proofs.Facts.{absurd_test}
+use Rattle.fluent_syntax_grammar.proofs.Tests.{true_and_true}
 use Rattle.fluent_syntax_grammar.proofs.backward.Entries.{IsLines, IsMessage, IsTerm, IsNotJunk, entry_reads_no_junk}
 
 module _ (t : List ℕ) (Joins Junk : Type 0) where
@@ -105,22 +105,22 @@ module _ (t : List ℕ) (Joins Junk : Type 0) where
   joined_message_obeys_readable_rules : (m : MessageTree Span) → IsMessage t Joins m →
       message_obeys (readable_rules One) (joined_message (message_map (bytes_at t) m)) ≡ true
   joined_message_obeys_readable_rules m g = let v = g.value in let a = g.attributes in
-      both_true g.field (both_true g.comment (both_true g.name (both_true v.obeys a.obeys)))
+      true_and_true g.field (true_and_true g.comment (true_and_true g.name (true_and_true v.obeys a.obeys)))
 
   joined_term_obeys_readable_rules : (m : TermTree Span) → IsTerm t Joins m →
       term_obeys (readable_rules One) (joined_term (term_map (bytes_at t) m)) ≡ true
-  joined_term_obeys_readable_rules m g = let v = g.value in let a = g.attributes in both_true g.comment
-      (both_true g.name (both_true v.obeys a.obeys))
+  joined_term_obeys_readable_rules m g = let v = g.value in let a = g.attributes in true_and_true g.comment
+      (true_and_true g.name (true_and_true v.obeys a.obeys))
 
   joined_body_obeys_readable_rules : (es : BodyTree Span) → list_every IsBodyEntry es →
       body_obeys (readable_rules One) (joined_body (body_map (bytes_at t) es)) ≡ true
   joined_body_obeys_readable_rules [] g = refl
   joined_body_obeys_readable_rules (message m ∷ es) (g, h) =
-      both_true (joined_message_obeys_readable_rules m g) (joined_body_obeys_readable_rules es h)
+      true_and_true (joined_message_obeys_readable_rules m g) (joined_body_obeys_readable_rules es h)
   joined_body_obeys_readable_rules (term m ∷ es) (g, h) =
-      both_true (joined_term_obeys_readable_rules m g) (joined_body_obeys_readable_rules es h)
+      true_and_true (joined_term_obeys_readable_rules m g) (joined_body_obeys_readable_rules es h)
   joined_body_obeys_readable_rules (comment level content ∷ es) (g, h) =
-      both_true g (joined_body_obeys_readable_rules es h)
+      true_and_true g (joined_body_obeys_readable_rules es h)
   joined_body_obeys_readable_rules (junk s ∷ es) (g, h) = joined_body_obeys_readable_rules es h
 
   equal_messages_begin_equal_bodies :
@@ -166,7 +166,7 @@ module _ (t : List ℕ) (bare : HasNoBareCr t) (Joins Junk : Type 0) (crs : (i :
     tiles_obey_joined i tiles (inr f) (next {end = end} b l (refuses x e) r) = absurd cc
 
 no_cr_has_no_bare_cr : (t : List ℕ) → HasNoCr t → HasNoBareCr t
-no_cr_has_no_bare_cr t no_cr i e = differs e (no_cr i)
+no_cr_has_no_bare_cr t no_cr i e = absurd_test e (no_cr i)
 
 -- The joined tree of a text's tiling is readable.
 pub joined_is_readable : (t : List ℕ) → JoinedIsReadable t
@@ -185,4 +185,4 @@ pub joined_is_same : (t : List ℕ) → JoinedIsSame t
 joined_is_same t tiles no_cr tiling f =
     body_of_entries_is_joined t ⊥ ⊥ (λ x. x) (λ x. x) (body tiles)
     (body_of_tiles_has_body_entries t ⊥ ⊥ tiles
-    (tiles_obey_joined t (no_cr_has_no_bare_cr t no_cr) ⊥ ⊥ (λ i e. differs e (no_cr i)) 0 tiles (inr f) tiling))
+    (tiles_obey_joined t (no_cr_has_no_bare_cr t no_cr) ⊥ ⊥ (λ i e. absurd_test e (no_cr i)) 0 tiles (inr f) tiling))

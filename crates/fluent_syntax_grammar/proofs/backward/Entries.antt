@@ -26,17 +26,17 @@ use Rattle.fluent_syntax_grammar.specs.Rules.{option_obeys, pattern_obeys, attri
 use Rattle.fluent_syntax_grammar.specs.Readable.{has_field, are_lines, readable_rules}
 use Rattle.fluent_syntax_grammar.specs.Joined.{joined_pattern, joined_attribute}
 use Rattle.fluent_syntax_grammar.specs.RoundTrip.{HasNoBareCr}
-use Rattle.fluent_syntax_grammar.proofs.Facts.{left_true, right_true}
-use Rattle.fluent_syntax_grammar.proofs.Tests.{both_true}
-use Rattle.fluent_syntax_grammar.proofs.backward.Lines.{empty_range_is_empty, range_all}
+use Rattle.fluent_syntax_grammar.proofs.Facts.{and_gives_left, and_gives_right}
+use Rattle.fluent_syntax_grammar.proofs.Tests.{true_and_true}
+use Rattle.fluent_syntax_grammar.proofs.backward.Lines.{empty_range_is_empty, range_passes_where_each_place_passes}
 use Rattle.fluent_syntax_grammar.proofs.backward.Words.{IsNameSpan}
-use Rattle.fluent_syntax_grammar.proofs.backward.Rules.{Ensures, ensures_bind, second_ensures, ensures_yields}
+use Rattle.fluent_syntax_grammar.proofs.backward.Rules.{Ensures, bind_ensures, bind_ensures_by_second, yields_ensures}
 use Rattle.fluent_syntax_grammar.proofs.backward.Rules.{fails_ensures_anything, peek_ensures_by_its_part}
 use Rattle.fluent_syntax_grammar.proofs.backward.Rules.{ensures_branch_on, ObeysJoined}
 use Rattle.fluent_syntax_grammar.proofs.backward.Rules.{IsPattern, identifier_reads_name_span}
 use Rattle.fluent_syntax_grammar.proofs.backward.Family as family_back
 use Rattle.fluent_syntax_grammar.proofs.backward.Family.{family_obeys_joined}
-use Rattle.fluent_syntax_grammar.proofs.Tests.{neither_left, not_false, not_true_is_false}
+use Rattle.fluent_syntax_grammar.proofs.Tests.{false_or_left, not_of_false_is_true, not_true_is_false}
 
 -- ---- comments
 
@@ -55,42 +55,43 @@ module _ (t : List ℕ) where
   byte_but_lf_passes_line_test : (o : Option ℕ) → is_some o ≡ true → holds (λ b. b == lf) o ≡ false →
       holds (λ b. not (b == lf)) o ≡ true
   byte_but_lf_passes_line_test None e f = cc
-  byte_but_lf_passes_line_test (Some b) e f = not_false (b == lf) f
+  byte_but_lf_passes_line_test (Some b) e f = not_of_false_is_true (b == lf) f
 
   -- a place within a line holds no LF
   line_place_has_no_lf : (k : ℕ) → is_line_place t k ≡ true → has t (λ b. not (b == lf)) k ≡ true
   line_place_has_no_lf k e =
-      byte_but_lf_passes_line_test (slice_get t k) (left_true (is_some (slice_get t k)) (not (has_eol t k)) e)
-      (neither_left (has_byte t lf k)
-      _ (not_true_is_false (has_eol t k) (right_true (is_some (slice_get t k)) (not (has_eol t k)) e)))
+      byte_but_lf_passes_line_test (slice_get t k) (and_gives_left (is_some (slice_get t k)) (not (has_eol t k)) e)
+      (false_or_left (has_byte t lf k)
+      _ (not_true_is_false (has_eol t k) (and_gives_right (is_some (slice_get t k)) (not (has_eol t k)) e)))
 
   read_rest_of_line_is_one_line : (i j : ℕ) (s : Span) → rest_of_line t i (Read s j) → IsLines (s ∷ [])
   read_rest_of_line_is_one_line i j s (goes_on at_place (goes_on (passed w) (goes_on at_place given))) =
-      both_true (not_false (has_lf (slice_range t i j))
+      true_and_true (not_of_false_is_true (has_lf (slice_range t i j))
       (no_lf_byte_has_no_lf (slice_range t i j)
-      (range_all t (λ b. not (b == lf)) i j w.forward (λ k x y. line_place_has_no_lf k (w.each k x y))))) refl
+      (range_passes_where_each_place_passes t (λ b. not (b == lf)) i j w.forward
+      (λ k x y. line_place_has_no_lf k (w.each k x y))))) refl
 
   empty_comment_text_is_one_line : (i j : ℕ) (s : Span) → comment_text t true i (Read s j) → IsLines (s ∷ [])
   empty_comment_text_is_one_line i j s (goes_on at_place (goes_on at_place given)) =
-      both_true (not_false (has_lf (slice_range t j j)) (ap has_lf (empty_range_is_empty t j))) refl
+      true_and_true (not_of_false_is_true (has_lf (slice_range t j j)) (ap has_lf (empty_range_is_empty t j))) refl
 
   comment_text_reads_one_line : (eol : Bool) → Ensures (comment_text t eol) (λ s. IsLines (s ∷ []))
   comment_text_reads_one_line true = record { on_read = empty_comment_text_is_one_line }
-  comment_text_reads_one_line false = second_ensures (λ u. record { on_read = read_rest_of_line_is_one_line })
+  comment_text_reads_one_line false = bind_ensures_by_second (λ u. record { on_read = read_rest_of_line_is_one_line })
 
   comment_rest_reads_lines : (o : Option ℕ) → Ensures (comment_rest t o) IsLines
-  comment_rest_reads_lines None = ensures_yields refl
-  comment_rest_reads_lines (Some b) = ensures_bind (peek_ensures_by_its_part comment_text_reads_one_line)
-      (λ s g. second_ensures (λ u. ensures_yields g))
+  comment_rest_reads_lines None = yields_ensures refl
+  comment_rest_reads_lines (Some b) = bind_ensures (peek_ensures_by_its_part comment_text_reads_one_line)
+      (λ s g. bind_ensures_by_second (λ u. yields_ensures g))
 
   comment_line_reads_lines : (level : ℕ) → Ensures (comment_line t level) IsLines
-  comment_line_reads_lines level = second_ensures (λ u. peek_ensures_by_its_part comment_rest_reads_lines)
+  comment_line_reads_lines level = bind_ensures_by_second (λ u. peek_ensures_by_its_part comment_rest_reads_lines)
 
   appended_lines_are_lines : (xs ys : List Span) → IsLines xs → IsLines ys → IsLines (xs ++ ys)
   appended_lines_are_lines [] ys e f = f
   appended_lines_are_lines (x ∷ xs) ys e f =
-      both_true (left_true (not (has_lf (bytes_at t x))) _ e)
-      (appended_lines_are_lines xs ys (right_true (not (has_lf (bytes_at t x))) _ e) f)
+      true_and_true (and_gives_left (not (has_lf (bytes_at t x))) _ e)
+      (appended_lines_are_lines xs ys (and_gives_right (not (has_lf (bytes_at t x))) _ e) f)
 
   read_comment_lines_are_lines : (level i j : ℕ) (content : List Span) → comment_lines t level i (Read content j) →
       IsLines content
@@ -146,7 +147,7 @@ module _ (t : List ℕ) (Joins : Type 0) where
       (attribute_map (bytes_at t) (record { id = id; value = p }))
   attribute_obeys_joined id p n g =
       record {
-        obeys = both_true n g.obeys;
+        obeys = true_and_true n g.obeys;
         same = λ none. ap (λ p. record { id = bytes_at t id; value = p }) (g.same
             none);
       }
@@ -159,7 +160,7 @@ module _ (t : List ℕ) (Joins : Type 0) where
       IsAttributes rest → IsAttributes (a ∷ rest)
   list_with_one_more_is_attributes a rest f g =
       record {
-        obeys = both_true f.obeys g.obeys;
+        obeys = true_and_true f.obeys g.obeys;
         same =
             λ none. equal_parts_make_equal_lists (f.same none) (g.same none);
       }
@@ -168,8 +169,10 @@ module _ (t : List ℕ) (Joins : Type 0) where
       equal_parts_make_equal_lists e f = cc (e, f)
 
 module _ (t : List ℕ) (bare : HasNoBareCr t) (Joins : Type 0) (crs : (i : ℕ) → has_byte t cr i ≡ true → Joins) where
-  ensures_pattern : Ensures (pattern One t) (option_every (IsPattern t Joins))
-  ensures_pattern = family_back.ensures_pattern t bare Joins crs (family One t) (family_obeys_joined t bare Joins crs)
+  pattern_of_text_ensures_is_pattern : Ensures (pattern One t) (option_every (IsPattern t Joins))
+  pattern_of_text_ensures_is_pattern =
+      family_back.pattern_of_family_ensures_is_pattern t bare Joins crs (family One t)
+      (family_obeys_joined t bare Joins crs)
 
   abbrev IsAttribute : AttributeTree Span → Type 0
   IsAttribute a =
@@ -178,15 +181,16 @@ module _ (t : List ℕ) (bare : HasNoBareCr t) (Joins : Type 0) (crs : (i : ℕ)
   attribute_with_reads_attribute : (id : Span) (o : Option (PatternTree Span)) → IsNameSpan t id →
       option_every (IsPattern t Joins) o → Ensures (attribute_with id o) IsAttribute
   attribute_with_reads_attribute id None n g = fails_ensures_anything
-  attribute_with_reads_attribute id (Some p) n g = ensures_yields (attribute_obeys_joined t Joins id p n g)
+  attribute_with_reads_attribute id (Some p) n g = yields_ensures (attribute_obeys_joined t Joins id p n g)
 
   attribute_reads_good_attribute : Ensures (attribute One t) IsAttribute
   attribute_reads_good_attribute =
-      second_ensures (λ u.
-      second_ensures (λ u.
-      ensures_bind (identifier_reads_name_span t Joins)
-      (λ id n. second_ensures
-      (λ u. second_ensures (λ u. ensures_bind ensures_pattern (λ o g. attribute_with_reads_attribute id o n g))))))
+      bind_ensures_by_second (λ u.
+      bind_ensures_by_second (λ u.
+      bind_ensures (identifier_reads_name_span t Joins)
+      (λ id n. bind_ensures_by_second
+      (λ u. bind_ensures_by_second
+      (λ u. bind_ensures pattern_of_text_ensures_is_pattern (λ o g. attribute_with_reads_attribute id o n g))))))
 
   read_attributes_are_attributes : (i j : ℕ) (rest : List (AttributeTree Span)) → attributes One t i (Read rest j) →
       IsAttributes t Joins rest
@@ -204,10 +208,10 @@ module _ (t : List ℕ) (bare : HasNoBareCr t) (Joins : Type 0) (crs : (i : ℕ)
       Ensures (message_with t start id o rest) (IsNotJunk t Joins)
   message_with_reads_no_junk start id None [] n g k = record { on_read = λ i j a x. elim x [ ] }
   message_with_reads_no_junk start id None (a ∷ rest) n g k =
-      ensures_yields
+      yields_ensures
       (record { name = n; field = refl; value = read_pattern_is_value t Joins None g; attributes = k; comment = refl })
   message_with_reads_no_junk start id (Some p) rest n g k =
-      ensures_yields
+      yields_ensures
       (record {
         name = n;
         field = refl;
@@ -222,29 +226,33 @@ module _ (t : List ℕ) (bare : HasNoBareCr t) (Joins : Type 0) (crs : (i : ℕ)
       Ensures (term_with t start id o rest) (IsNotJunk t Joins)
   term_with_reads_no_junk start id None rest n g k = record { on_read = λ i j a x. elim x [ ] }
   term_with_reads_no_junk start id (Some p) rest n g k =
-      ensures_yields (record { name = n; value = g; attributes = k; comment = refl })
+      yields_ensures (record { name = n; value = g; attributes = k; comment = refl })
 
   message_reads_no_junk : Ensures (message_entry One t) (IsNotJunk t Joins)
   message_reads_no_junk =
-      second_ensures (λ start.
-      ensures_bind (identifier_reads_name_span t Joins)
-      (λ id n. second_ensures (λ u. second_ensures (λ u. ensures_bind ensures_pattern (λ o g. second_ensures (λ u.
-      ensures_bind attributes_read_good_attributes (λ rest k. message_with_reads_no_junk start id o rest n g k)))))))
+      bind_ensures_by_second (λ start.
+      bind_ensures (identifier_reads_name_span t Joins)
+      (λ id n. bind_ensures_by_second
+      (λ u. bind_ensures_by_second
+      (λ u. bind_ensures pattern_of_text_ensures_is_pattern (λ o g. bind_ensures_by_second (λ u.
+      bind_ensures attributes_read_good_attributes (λ rest k. message_with_reads_no_junk start id o rest n g k)))))))
 
   term_reads_no_junk : Ensures (term_entry One t) (IsNotJunk t Joins)
   term_reads_no_junk =
-      second_ensures (λ start.
-      second_ensures (λ u.
-      ensures_bind (identifier_reads_name_span t Joins)
-      (λ id n. second_ensures (λ u. second_ensures (λ u. ensures_bind ensures_pattern (λ o g. second_ensures (λ u.
-      ensures_bind attributes_read_good_attributes (λ rest k. term_with_reads_no_junk start id o rest n g k))))))))
+      bind_ensures_by_second (λ start.
+      bind_ensures_by_second (λ u.
+      bind_ensures (identifier_reads_name_span t Joins)
+      (λ id n. bind_ensures_by_second
+      (λ u. bind_ensures_by_second
+      (λ u. bind_ensures pattern_of_text_ensures_is_pattern (λ o g. bind_ensures_by_second (λ u.
+      bind_ensures attributes_read_good_attributes (λ rest k. term_with_reads_no_junk start id o rest n g k))))))))
 
   comment_reads_no_junk : Ensures (comment_entry t) (IsNotJunk t Joins)
   comment_reads_no_junk =
       peek_ensures_by_its_part
-      (λ level. ensures_bind (comment_line_reads_lines t level)
-      (λ c g. ensures_bind {Mid = IsLines t} (record { on_read = read_comment_lines_are_lines t level })
-      (λ rest k. ensures_yields (appended_lines_are_lines t c rest g k))))
+      (λ level. bind_ensures (comment_line_reads_lines t level)
+      (λ c g. bind_ensures {Mid = IsLines t} (record { on_read = read_comment_lines_are_lines t level })
+      (λ rest k. yields_ensures (appended_lines_are_lines t c rest g k))))
 
   entry_of_byte_reads_no_junk : (o : Option ℕ) → Ensures (entry_of One t (family One t) o) (IsNotJunk t Joins)
   entry_of_byte_reads_no_junk None = message_reads_no_junk

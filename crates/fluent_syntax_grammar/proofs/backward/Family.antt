@@ -32,34 +32,36 @@ use Rattle.fluent_syntax_grammar.specs.Rules.{pattern_obeys}
 use Rattle.fluent_syntax_grammar.specs.Readable.{opening, defaults, readable_rules}
 use Rattle.fluent_syntax_grammar.specs.Joined.{is_joined, joined_pattern, joined_after, joined_variants}
 use Rattle.fluent_syntax_grammar.specs.RoundTrip.{HasNoBareCr}
-use Rattle.fluent_syntax_grammar.proofs.HoareTriple.{yields_value}
+use Rattle.fluent_syntax_grammar.proofs.HoareTriple.{yields_reads_its_value_in_place}
 use Rattle.fluent_syntax_grammar.proofs.Cuts.{eol_is_lf_or_crlf}
 use Rattle.fluent_syntax_grammar.proofs.Functional.{longest_run_is_functional}
-use Rattle.fluent_syntax_grammar.proofs.Facts.{holds-some, differs, two_on_is_not_next, next_number_passes_its_test}
+use Rattle.fluent_syntax_grammar.proofs.Facts.{holds-some, absurd_test, two_on_is_not_next, next_number_passes_its_test}
 use Rattle.fluent_syntax_grammar.proofs.Facts.{longest_run_nonempty}
-use Rattle.fluent_syntax_grammar.proofs.Tests.{both_true}
+use Rattle.fluent_syntax_grammar.proofs.Tests.{true_and_true}
 use Rattle.fluent_syntax_grammar.proofs.backward.Shapes.{LastItemStays, last_item_of_cut_stays, cut_items_have_shape}
 use Rattle.fluent_syntax_grammar.proofs.backward.Shapes.{items_tree, IsWellPlaced}
-use Rattle.fluent_syntax_grammar.proofs.backward.Shapes.{items_are_well_placed, items_same, Shape}
+use Rattle.fluent_syntax_grammar.proofs.backward.Shapes.{items_are_well_placed, joined_pattern_without_joins_is_same}
+use Rattle.fluent_syntax_grammar.proofs.backward.Shapes.{Shape}
 use Rattle.fluent_syntax_grammar.proofs.backward.Lines.{IsEnd, PiecesAt, no_piece, a_run, a_placeable, EndingAt}
 use Rattle.fluent_syntax_grammar.proofs.backward.Lines.{lf_ends, crlf_ends, text_ends, LineAt, LinesAt}
 use Rattle.fluent_syntax_grammar.proofs.backward.Lines.{no_line as no_lines, a_line, LayoutAt, on_line, below}
 use Rattle.fluent_syntax_grammar.proofs.backward.Layouts.{items_of_layout_have_shape}
 use Rattle.fluent_syntax_grammar.proofs.backward.FirstLines.{layout_there_is_spare}
 use Rattle.fluent_syntax_grammar.proofs.backward.Words.{read_number_is_number}
-use Rattle.fluent_syntax_grammar.proofs.backward.Rules.{Ensures, ensures_bind, second_ensures, ensures_yields}
+use Rattle.fluent_syntax_grammar.proofs.backward.Rules.{Ensures, bind_ensures, bind_ensures_by_second, yields_ensures}
 use Rattle.fluent_syntax_grammar.proofs.backward.Rules.{fails_ensures_anything, peek_ensures_by_its_part}
 use Rattle.fluent_syntax_grammar.proofs.backward.Rules.{ensures_branch_on, ObeysJoined}
 use Rattle.fluent_syntax_grammar.proofs.backward.Rules.{IsPattern, IsKey, IsVariants, ObeysJoinedFamily}
 use Rattle.fluent_syntax_grammar.proofs.backward.Rules.{identifier_reads_name_span}
-use Rattle.fluent_syntax_grammar.proofs.backward.Rules.{IsInline, placeable_reads_good_expression, inline_inversion}
+use Rattle.fluent_syntax_grammar.proofs.backward.Rules.{IsInline, placeable_reads_good_expression}
+use Rattle.fluent_syntax_grammar.proofs.backward.Rules.{inline_that_is_read_fits_its_start}
 use Rattle.fluent_syntax_grammar.proofs.backward.Rules.{more_arguments_read_arguments, Adds, many_ensures_by_its_items}
 use Rattle.fluent_syntax_grammar.proofs.backward.Rules.{select_obeys_joined}
 use Rattle.fluent_syntax_grammar.proofs.backward.Rules.{inline_obeys_joined}
 use Rattle.fluent_syntax_grammar.proofs.backward.Shapes.{IsReadExpression}
 use Rattle.fluent_syntax_tree.specs.Tree.{InlineTree, VariantTree}
 use Rattle.fluent_syntax_tree.specs.Kind.{Kind}
-use Rattle.fluent_syntax_grammar.proofs.Tests.{neither_left, not_false}
+use Rattle.fluent_syntax_grammar.proofs.Tests.{false_or_left, not_of_false_is_true}
 use Rattle.fluent_syntax_grammar.proofs.LineEnds.{no_eol_end_means_no_eol}
 
 -- ---- the pattern that a layout gives
@@ -87,7 +89,7 @@ joined_pattern_has_elements (text_element v) es = joined_after_has_elements v es
 well_pattern_obeys_rules : (p : PatternTree Text) → has_elements p ≡ true → IsWellPlaced (is_multiline p) opening p →
     pattern_obeys (readable_rules One) p ≡ true
 well_pattern_obeys_rules no_elements e w = cc
-well_pattern_obeys_rules (elements x xs) e w = both_true w.position w.obey
+well_pattern_obeys_rules (elements x xs) e w = true_and_true w.position w.obey
 
 module _ (t : List ℕ) (bare : HasNoBareCr t) (Joins : Type 0) (crs : (i : ℕ) → has_byte t cr i ≡ true → Joins) where
   tree_of_items_has_elements : (x : Item) (xs : List Item) →
@@ -106,7 +108,7 @@ module _ (t : List ℕ) (bare : HasNoBareCr t) (Joins : Type 0) (crs : (i : ℕ)
         obeys =
             well_pattern_obeys_rules (joined_pattern (items_tree t (x ∷ xs))) (tree_of_items_has_elements x xs)
             (items_are_well_placed t Joins m opening (x ∷ xs) tt s k);
-        same = λ none. items_same t Joins m none opening (x ∷ xs) s;
+        same = λ none. joined_pattern_without_joins_is_same t Joins m none opening (x ∷ xs) s;
       }
 
   spelled_obeys_joined : (xs : List Item) → Shape t Joins (is_multiline (joined_pattern (items_tree t xs))) opening xs →
@@ -145,14 +147,14 @@ module _ (t : List ℕ) (Joins : Type 0) where
   ]
 
   end_without_eol_has_no_byte : (i : ℕ) → IsEnd t i → after_eol t i ≡ None → slice_get t i ≡ None
-  end_without_eol_has_no_byte i (inl e) f = differs e (no_eol_end_means_no_eol t i f)
+  end_without_eol_has_no_byte i (inl e) f = absurd_test e (no_eol_end_means_no_eol t i f)
   end_without_eol_has_no_byte i (inr e) f = e
 
   read_ending_by_eol_is_ending : (i j : ℕ) (x : Ending) (o : Option ℕ) → IsEnd t i → after_eol t i ≡ o →
       ending_of t i o i (Read x j) → EndingAt t Joins i x j
   read_ending_by_eol_is_ending i j x None n e given = text_ends (end_without_eol_has_no_byte i n e)
   read_ending_by_eol_is_ending i j x (Some k) n e (goes_on {j = m} (passed w) y) =
-      let value = yields_value (if k == i + 1 then lf_at i else crlf_at i) x m j y in
+      let value = yields_reads_its_value_in_place (if k == i + 1 then lf_at i else crlf_at i) x m j y in
       subst (λ x. EndingAt t Joins i x j) value.0
       (ending_by_test_is_lf_or_crlf i k j (k == i + 1) refl e (sym w.there ∙ value.1))
 
@@ -169,9 +171,11 @@ module _ (t : List ℕ) (Joins : Type 0) where
       (b == 123) ≡ false → is_run_place t i ≡ true
   plain_byte_begins_run i b e f g h =
       let no_lf : (b == lf) ≡ false =
-      ap (holds (λ c. c == lf)) (sym e) ∙ neither_left (has_byte t lf i) (has_byte t cr i && has_byte t lf (i + 1)) f in
-      both_true (holds-some (λ b. not (b == lf || b == 123 || b == 125)) (slice_get t i) b e (rw (no_lf, h, g) refl))
-      (not_false (has_eol t i) f)
+      ap (holds (λ c. c == lf)) (sym e) ∙
+      false_or_left (has_byte t lf i) (has_byte t cr i && has_byte t lf (i + 1)) f in
+      true_and_true
+      (holds-some (λ b. not (b == lf || b == 123 || b == 125)) (slice_get t i) b e (rw (no_lf, h, g) refl))
+      (not_of_false_is_true (has_eol t i) f)
 
 module _ (t : List ℕ) (bare : HasNoBareCr t) (Joins : Type 0) (crs : (i : ℕ) → has_byte t cr i ≡ true → Joins)
     (R : Family) (h : ObeysJoinedFamily t Joins R) where
@@ -237,7 +241,9 @@ module _ (t : List ℕ) (bare : HasNoBareCr t) (Joins : Type 0) (crs : (i : ℕ)
       let made =
       line_of_its_parts_is_line_there i k b start m n ps e' w e f v p
       (read_ending_is_ending_there t Joins m n e' (pieces_end_where_a_line_ends t Joins start ps m p) y) in
-      let value = yields_value (record { start = i; spaces = start - i; pieces = ps; ending = e' }) l n j z in
+      let value =
+      yields_reads_its_value_in_place (record { start = i; spaces = start - i; pieces = ps; ending = e' }) l n j
+      z in
       subst (λ l. LineAt t Joins i l j) value.0
       (subst (λ j. LineAt t Joins i (record { start = i; spaces = start - i; pieces = ps; ending = e' }) j) value.1
       made)
@@ -279,10 +285,10 @@ module _ (t : List ℕ) (bare : HasNoBareCr t) (Joins : Type 0) (crs : (i : ℕ)
   read_layout_is_layout_there i j y (goes_on (passed {j = m} w) (chosen x)) =
       read_layout_by_eol_is_layout m j y (after_eol t m) w.longest refl x
 
-  pub ensures_pattern : Ensures (pattern One t R) (option_every (IsPattern t Joins))
-  ensures_pattern =
-      ensures_bind (record { on_read = λ i j y x. read_layout_is_layout_there i j y x })
-      (λ y g. ensures_yields (pattern_obeys_joined t bare Joins crs y g))
+  pub pattern_of_family_ensures_is_pattern : Ensures (pattern One t R) (option_every (IsPattern t Joins))
+  pattern_of_family_ensures_is_pattern =
+      bind_ensures (record { on_read = λ i j y x. read_layout_is_layout_there i j y x })
+      (λ y g. yields_ensures (pattern_obeys_joined t bare Joins crs y g))
 
   -- ---- variants
 
@@ -294,7 +300,7 @@ module _ (t : List ℕ) (bare : HasNoBareCr t) (Joins : Type 0) (crs : (i : ℕ)
   variant_key_reads_key =
       peek_ensures_by_its_part
       (λ n. ensures_branch_on (λ e. record { on_read = read_number_key_is_key })
-      (λ e. ensures_bind (identifier_reads_name_span t Joins) (λ v g. ensures_yields g)))
+      (λ e. bind_ensures (identifier_reads_name_span t Joins) (λ v g. yields_ensures g)))
 
   empty_variants_are_variants : (starred : Bool) → IsVariants t Joins starred no_variants
   empty_variants_are_variants starred =
@@ -318,7 +324,7 @@ module _ (t : List ℕ) (bare : HasNoBareCr t) (Joins : Type 0) (crs : (i : ℕ)
       record {
         fine =
             record {
-              obeys = both_true (both_true k p.obeys) f.obeys;
+              obeys = true_and_true (true_and_true k p.obeys) f.obeys;
               same = λ none. equal_parts_make_equal_variants key true (p.same none) (f.same none);
             };
         none = λ y. absurd cc;
@@ -329,7 +335,7 @@ module _ (t : List ℕ) (bare : HasNoBareCr t) (Joins : Type 0) (crs : (i : ℕ)
       record {
         fine =
             record {
-              obeys = both_true (both_true k p.obeys) f.obeys;
+              obeys = true_and_true (true_and_true k p.obeys) f.obeys;
               same = λ none. equal_parts_make_equal_variants key false (p.same none) (f.same none);
             };
         none = λ y. g.none refl;
@@ -340,7 +346,7 @@ module _ (t : List ℕ) (bare : HasNoBareCr t) (Joins : Type 0) (crs : (i : ℕ)
       record {
         fine =
             record {
-              obeys = both_true (both_true k p.obeys) f.obeys;
+              obeys = true_and_true (true_and_true k p.obeys) f.obeys;
               same = λ none. equal_parts_make_equal_variants key false (p.same none) (f.same none);
             };
         none = λ y. absurd cc;
@@ -356,31 +362,32 @@ module _ (t : List ℕ) (bare : HasNoBareCr t) (Joins : Type 0) (crs : (i : ℕ)
       Ensures (variant_of t starred star key o) (IsNext starred)
   variant_of_reads_next_variant starred star key None e k p = fails_ensures_anything
   variant_of_reads_next_variant starred star key (Some value) e k p =
-      second_ensures
-      (λ u. ensures_yields (λ vs g. variants_with_one_more_are_variants starred star key value vs e k p g))
+      bind_ensures_by_second
+      (λ u. yields_ensures (λ vs g. variants_with_one_more_are_variants starred star key value vs e k p g))
 
   variant_after_reads_next_variant : (starred star : Bool) → (starred && star) ≡ false →
       Ensures (variant_after One t R starred star) (IsNext starred)
   variant_after_reads_next_variant starred star e =
-      second_ensures (λ u.
-      ensures_bind variant_key_reads_key
-      (λ key k. second_ensures
-      (λ u. second_ensures
-      (λ u. ensures_bind ensures_pattern (λ o p. variant_of_reads_next_variant starred star key o e k p)))))
+      bind_ensures_by_second (λ u.
+      bind_ensures variant_key_reads_key
+      (λ key k. bind_ensures_by_second
+      (λ u. bind_ensures_by_second
+      (λ u. bind_ensures pattern_of_family_ensures_is_pattern
+      (λ o p. variant_of_reads_next_variant starred star key o e k p)))))
 
   only_star_reads_one_star : (starred star : Bool) → Ensures (only_star starred star) (λ u. (starred && star) ≡ false)
-  only_star_reads_one_star starred star = ensures_branch_on (λ e. fails_ensures_anything) (λ e. ensures_yields e)
+  only_star_reads_one_star starred star = ensures_branch_on (λ e. fails_ensures_anything) (λ e. yields_ensures e)
 
   variants_end_reads_next_variant : (starred star : Bool) → Ensures (variants_end One starred star) (IsNext starred)
   variants_end_reads_next_variant starred star =
-      ensures_branch_on (λ e. ensures_yields (empty_variants_are_variants starred)) (λ e. fails_ensures_anything)
+      ensures_branch_on (λ e. yields_ensures (empty_variants_are_variants starred)) (λ e. fails_ensures_anything)
 
   more_variants_read_variants : (starred : Bool) → Ensures (more_variants One t R starred) (IsVariants t Joins starred)
   more_variants_read_variants =
       many_ensures_by_its_items (next_variant One t R) variants no_variants (IsVariants t Joins)
-      (λ starred. second_ensures (λ star.
-      ensures_bind (only_star_reads_one_star starred star)
-      (λ u e. second_ensures
+      (λ starred. bind_ensures_by_second (λ star.
+      bind_ensures (only_star_reads_one_star starred star)
+      (λ u e. bind_ensures_by_second
       (λ bracket. ensures_branch_on (λ y. variant_after_reads_next_variant starred star e)
       (λ y. variants_end_reads_next_variant starred star)))))
 
@@ -388,23 +395,24 @@ module _ (t : List ℕ) (bare : HasNoBareCr t) (Joins : Type 0) (crs : (i : ℕ)
 
   variants_of_select_read_variants : Ensures (variants_of_select One t R) (IsVariants t Joins false)
   variants_of_select_read_variants =
-      second_ensures
-      (λ u. second_ensures (λ u. second_ensures (λ u. second_ensures (λ u. more_variants_read_variants false))))
+      bind_ensures_by_second
+      (λ u. bind_ensures_by_second
+      (λ u. bind_ensures_by_second (λ u. bind_ensures_by_second (λ u. more_variants_read_variants false))))
 
   select_reads_good_expression : (e : InlineTree Span) (o : Option Kind) → IsInline t Joins e → selector_fault e ≡ o →
       Ensures (select_with One t R e o) (IsReadExpression t Joins)
   select_reads_good_expression e None f k =
-      ensures_bind variants_of_select_read_variants
-      (λ vs g. ensures_yields (select_obeys_joined t Joins R h e vs f k g))
+      bind_ensures variants_of_select_read_variants
+      (λ vs g. yields_ensures (select_obeys_joined t Joins R h e vs f k g))
   select_reads_good_expression e (Some x) f k = fails_ensures_anything
 
   pub expression_reads_good_expression : Ensures (expression One t R) (IsReadExpression t Joins)
   expression_reads_good_expression =
-      ensures_bind (record { on_read = λ i j e x. (inline_inversion t Joins R h i j e x).0 })
-      (λ e f. second_ensures (λ u. second_ensures (λ arrow. ensures_branch_on
+      bind_ensures (record { on_read = λ i j e x. (inline_that_is_read_fits_its_start t Joins R h i j e x).0 })
+      (λ e f. bind_ensures_by_second (λ u. bind_ensures_by_second (λ arrow. ensures_branch_on
       (λ y. select_reads_good_expression e (selector_fault e) f refl)
       (λ y. ensures_branch_on (λ z. fails_ensures_anything)
-      (λ z. ensures_yields (inline_obeys_joined t Joins R h e f z))))))
+      (λ z. yields_ensures (inline_obeys_joined t Joins R h e f z))))))
 
   next_obeys_joined : ObeysJoinedFamily t Joins (next One t R)
   next_obeys_joined = record {
@@ -426,14 +434,15 @@ module _ (t : List ℕ) (bare : HasNoBareCr t) (Joins : Type 0) (crs : (i : ℕ)
   unfolding within
   next_depth_obeys_joined n h = next_obeys_joined t bare Joins crs (within One t n) h
 
-  within_obeys_joined : (n : ℕ) → ObeysJoinedFamily t Joins (within One t n)
-  within_obeys_joined zero = depth_zero_obeys_joined
-  within_obeys_joined (suc n) = next_depth_obeys_joined n (within_obeys_joined n)
+  family_within_depth_obeys_joined : (n : ℕ) → ObeysJoinedFamily t Joins (within One t n)
+  family_within_depth_obeys_joined zero = depth_zero_obeys_joined
+  family_within_depth_obeys_joined (suc n) = next_depth_obeys_joined n (family_within_depth_obeys_joined n)
 
   -- what nests is fine, to any depth
   pub family_obeys_joined : ObeysJoinedFamily t Joins (family One t)
   unfolding family
   family_obeys_joined = record {
-    expression = record { on_read = λ i j a x. (within_obeys_joined x.0).expression.on_read i j a x.1 };
-    argument_list = record { on_read = λ i j a x. (within_obeys_joined x.0).argument_list.on_read i j a x.1 };
+    expression = record { on_read = λ i j a x. (family_within_depth_obeys_joined x.0).expression.on_read i j a x.1 };
+    argument_list =
+        record { on_read = λ i j a x. (family_within_depth_obeys_joined x.0).argument_list.on_read i j a x.1 };
   }

@@ -16,17 +16,18 @@ use Rattle.fluent_syntax_grammar.specs.Elements.{line_items, items, is_nonblank,
 use Rattle.fluent_syntax_grammar.specs.Written.{Text, has_lf, is_select, is_multiline}
 use Rattle.fluent_syntax_grammar.specs.Joined.{joined_pattern}
 use Rattle.fluent_syntax_grammar.specs.RoundTrip.{HasNoBareCr}
-use Rattle.fluent_syntax_grammar.proofs.Facts.{append_nothing}
+use Rattle.fluent_syntax_grammar.proofs.Facts.{append_of_nothing_is_same}
 use Rattle.fluent_syntax_grammar.proofs.backward.Texts.{line_end, nonblank_is_shows}
 use Rattle.fluent_syntax_grammar.proofs.backward.Shapes.{items_tree}
-use Rattle.fluent_syntax_grammar.proofs.backward.Lines.{range_ends_with_its_last_byte, byte_at, PiecesAt, no_piece}
+use Rattle.fluent_syntax_grammar.proofs.backward.Lines.{range_ends_with_its_last_byte, tested_byte_is_at_place}
+use Rattle.fluent_syntax_grammar.proofs.backward.Lines.{PiecesAt, no_piece}
 use Rattle.fluent_syntax_grammar.proofs.backward.Lines.{a_run, a_placeable}
 use Rattle.fluent_syntax_grammar.proofs.backward.Lines.{EndingAt, lf_ends, crlf_ends, text_ends, LineAt, LinesAt}
 use Rattle.fluent_syntax_grammar.proofs.backward.Lines.{a_line, LayoutAt, on_line, below}
 use Rattle.fluent_syntax_grammar.proofs.backward.Layouts.{LineText, HeadAt, line_has_head_at_kept_indent}
 use Rattle.fluent_syntax_grammar.proofs.backward.Layouts.{run_at_head_is_line_text, no_line_at_end, IsSpare}
 use Rattle.fluent_syntax_grammar.proofs.JoinedLines.{joining_keeps_is_multiline}
-use Rattle.fluent_syntax_grammar.proofs.Tests.{or_cases, true_by_left, true_by_right}
+use Rattle.fluent_syntax_grammar.proofs.Tests.{or_has_true_side, true_by_left, true_by_right}
 
 -- ---- the cut keeps what is before an item that stays
 
@@ -72,7 +73,7 @@ module _ (t : List ℕ) where
       is_multiline (items_tree t (xs ++ (z ∷ zs))) ≡ true
   tree_of_spanning_item_is_multiline [] z zs e = cc
   tree_of_spanning_item_is_multiline (text from to ∷ []) z zs e =
-      elim (or_cases (has_lf (slice_range t from to)) false e)
+      elim (or_has_true_side (has_lf (slice_range t from to)) false e)
       [ inl f ↦ true_by_left (has_lf (slice_range t from to)) _ f | inr f ↦ absurd cc ]
   tree_of_spanning_item_is_multiline (text from to ∷ y ∷ ys) z zs e =
       or_true_by_implication (has_lf (slice_range t from to)) (list_any spans (y ∷ ys))
@@ -91,7 +92,7 @@ module _ (t : List ℕ) (bare : HasNoBareCr t) (Joins : Type 0) (crs : (i : ℕ)
 
   range_over_lf_has_lf : (i j : ℕ) → i ≤ j → has_byte t lf j ≡ true → has_lf (slice_range t i (j + 1)) ≡ true
   range_over_lf_has_lf i j l e =
-      ap has_lf (range_ends_with_its_last_byte t i j lf l (byte_at t lf j e))
+      ap has_lf (range_ends_with_its_last_byte t i j lf l (tested_byte_is_at_place t lf j e))
       ∙ (list_any-append (λ b. b == lf) (slice_range t i j) (lf ∷ []) ∙ true_by_right (has_lf (slice_range t i j)) true
       refl)
 
@@ -136,16 +137,16 @@ module _ (t : List ℕ) (bare : HasNoBareCr t) (Joins : Type 0) (crs : (i : ℕ)
       list_any (stays t) (with_ending (run kept to ∷ ps) e) ≡ true
   line_of_run_has_item_that_stays kept first to b [] n e j l x (no_piece y) (lf_ends h) =
       true_by_left _ false (text_with_shown_byte_stays kept first to b true (n + 1) x
-      (range_ends_with_its_last_byte t kept n lf l (byte_at t lf n h)))
+      (range_ends_with_its_last_byte t kept n lf l (tested_byte_is_at_place t lf n h)))
   line_of_run_has_item_that_stays kept first to b [] n e j l x (no_piece y) (crlf_ends c h) =
       true_by_left _ _
-      (text_with_shown_byte_stays kept first to b false n x (sym (append_nothing (slice_range t kept n))))
+      (text_with_shown_byte_stays kept first to b false n x (sym (append_of_nothing_is_same (slice_range t kept n))))
   line_of_run_has_item_that_stays kept first to b [] n e j l x (no_piece y) (text_ends h) =
       true_by_left _ _
-      (text_with_shown_byte_stays kept first to b false n x (sym (append_nothing (slice_range t kept n))))
+      (text_with_shown_byte_stays kept first to b false n x (sym (append_of_nothing_is_same (slice_range t kept n))))
   line_of_run_has_item_that_stays kept first to b (p ∷ ps) n e j l x y h =
       true_by_left _ _
-      (text_with_shown_byte_stays kept first to b false to x (sym (append_nothing (slice_range t kept to))))
+      (text_with_shown_byte_stays kept first to b false to x (sym (append_of_nothing_is_same (slice_range t kept to))))
 
   -- a line does not count, or gives an item that stays
   counted_line_has_item_that_stays : (kept first byte spaces : ℕ) (ps : List Piece) (n : ℕ) (e : Ending) (j at : ℕ) →

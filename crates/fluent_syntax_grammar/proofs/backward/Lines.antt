@@ -10,8 +10,8 @@ use Rattle.fluent_syntax_grammar.specs.Bytes.{lf, cr, is_space}
 use Rattle.fluent_syntax_grammar.specs.Places.{LongestRun, has, has_byte, has_eol, InlineBlank}
 use Rattle.fluent_syntax_grammar.specs.Layout.{Piece, run, placed, Ending, lf_at, crlf_at, text_end, Line, Layout}
 use Rattle.fluent_syntax_grammar.specs.Lines.{is_run_place, belongs}
-use Rattle.fluent_syntax_grammar.proofs.Facts.{byte_exists, equal, has_inside}
-use Rattle.fluent_syntax_grammar.proofs.SuffixAt.{SuffixAt, first, suffix_first, suffix_next}
+use Rattle.fluent_syntax_grammar.proofs.Facts.{byte_exists, same_by_test, byte_that_passes_is_in_text}
+use Rattle.fluent_syntax_grammar.proofs.SuffixAt.{SuffixAt, first, first_of_suffix, next_of_suffix}
 use Rattle.fluent_syntax_grammar.proofs.backward.Taken.{taken_bytes_are_in_set}
 use Rattle.fluent_syntax_grammar.proofs.backward.Shapes.{IsReadExpression}
 
@@ -22,17 +22,18 @@ module _ (t : List ℕ) where
   suffix_at_byte_begins_with_it i b e =
       let l = slice_get_within t i b e in
       let here : SuffixAt t i (drop i t) = record { within = omega arith; rest = refl } in
-      let f : first (drop i t) ≡ Some b = sym (suffix_first here) ∙ e in
+      let f : first (drop i t) ≡ Some b = sym (first_of_suffix here) ∙ e in
       at_first (drop i t) here f
     where
       at_first : (bs : List ℕ) → SuffixAt t i bs → first bs ≡ Some b → SuffixAt t i (b ∷ drop (i + 1) t)
       at_first [] h f = absurd cc
       at_first (c ∷ cs) h f = let same : c ≡ b = cc in
-          record { within = h.within; rest = h.rest ∙ cc (same, sym ((suffix_next h).rest)) }
+          record { within = h.within; rest = h.rest ∙ cc (same, sym ((next_of_suffix h).rest)) }
 
   -- a range begins with the byte at its start
-  pub range_first : (i j b : ℕ) → i < j → slice_get t i ≡ Some b → slice_range t i j ≡ b ∷ slice_range t (i + 1) j
-  range_first i j b l e =
+  pub range_begins_with_byte_at_start : (i j b : ℕ) → i < j → slice_get t i ≡ Some b →
+      slice_range t i j ≡ b ∷ slice_range t (i + 1) j
+  range_begins_with_byte_at_start i j b l e =
       let n : j - i ≡ suc (j - (i + 1)) = omega arith in
       ap (λ n. take n (drop i t)) n ∙ ap (take (suc (j - (i + 1)))) ((suffix_at_byte_begins_with_it i b e).rest)
 
@@ -46,7 +47,7 @@ module _ (t : List ℕ) where
       let s : i + 0 ≡ i = omega arith in
       let f : slice_get t i ≡ Some b = subst (λ k. slice_get t k ≡ Some b) s e in
       subst (λ k. slice_range t i (k + 1) ≡ slice_range t i k ++ (b ∷ [])) (sym s)
-      (range_first i (i + 1) b (omega arith) f
+      (range_begins_with_byte_at_start i (i + 1) b (omega arith) f
       ∙ (ap (λ bs. b ∷ bs) (empty_range_is_empty (i + 1)) ∙ ap (λ bs. bs ++ (b ∷ [])) (sym (empty_range_is_empty i))))
   longer_range_ends_with_next_byte (suc n) i b e =
       let l = slice_get_within t (i + suc n) b e in
@@ -59,8 +60,9 @@ module _ (t : List ℕ) where
       let r : slice_range t (i + 1) ((i + suc n) + 1) ≡ slice_range t (i + 1) (i + suc n) ++ (b ∷ []) =
       subst (λ k. slice_range t (i + 1) (k + 1) ≡ slice_range t (i + 1) k ++ (b ∷ [])) s
       (longer_range_ends_with_next_byte n (i + 1) b f) in
-      range_first i ((i + suc n) + 1) c.0 far c.1
-      ∙ (ap (λ bs. c.0 ∷ bs) r ∙ ap (λ bs. bs ++ (b ∷ [])) (sym (range_first i (i + suc n) c.0 on c.1)))
+      range_begins_with_byte_at_start i ((i + suc n) + 1) c.0 far c.1
+      ∙ (ap (λ bs. c.0 ∷ bs) r ∙
+      ap (λ bs. bs ++ (b ∷ [])) (sym (range_begins_with_byte_at_start i (i + suc n) c.0 on c.1)))
     where
       place_in_text_has_some_byte : (k : ℕ) → k < length t → (b : ℕ) × (slice_get t k ≡ Some b)
       place_in_text_has_some_byte k l = (get_or t k 0, slice_get-get_or t k 0 l)
@@ -73,21 +75,23 @@ module _ (t : List ℕ) where
 
   pub range_of_one_byte_is_that_byte : (i b : ℕ) → slice_get t i ≡ Some b → slice_range t i (i + 1) ≡ b ∷ []
   range_of_one_byte_is_that_byte i b e =
-      range_first i (i + 1) b (omega arith) e ∙ ap (λ bs. b ∷ bs) (empty_range_is_empty (i + 1))
+      range_begins_with_byte_at_start i (i + 1) b (omega arith) e ∙ ap (λ bs. b ∷ bs) (empty_range_is_empty (i + 1))
 
   -- each byte of a range is in a set
-  pub range_all : (set : ℕ → Bool) (i j : ℕ) → i ≤ j → ((k : ℕ) → i ≤ k → k < j → has t set k ≡ true) →
+  pub range_passes_where_each_place_passes : (set : ℕ → Bool) (i j : ℕ) → i ≤ j →
+      ((k : ℕ) → i ≤ k → k < j → has t set k ≡ true) →
       list_all set (slice_range t i j) ≡ true
-  range_all set i j l e = at (j - i) i (λ k a b. e k a (omega arith))
+  range_passes_where_each_place_passes set i j l e = at (j - i) i (λ k a b. e k a (omega arith))
     where
       at : (n i : ℕ) → ((k : ℕ) → i ≤ k → k < i + n → has t set k ≡ true) → list_all set (take n (drop i t)) ≡ true
       at zero i e = refl
       at (suc n) i e =
-          let l : i < length t = has_inside set t i (e i (omega arith) (omega arith)) in
+          let l : i < length t = byte_that_passes_is_in_text set t i (e i (omega arith) (omega arith)) in
           taken_bytes_are_in_set set (suc n) (drop i t) i (record { within = omega arith; rest = refl }) e
 
-  pub byte_at : (c i : ℕ) → has_byte t c i ≡ true → slice_get t i ≡ Some c
-  byte_at c i e = let b = byte_exists (λ b. b == c) (slice_get t i) e in b.1 ∙ ap Some (equal b.0 c b.2)
+  pub tested_byte_is_at_place : (c i : ℕ) → has_byte t c i ≡ true → slice_get t i ≡ Some c
+  tested_byte_is_at_place c i e = let b = byte_exists (λ b. b == c) (slice_get t i) e in b.1 ∙
+      ap Some (same_by_test b.0 c b.2)
 
 -- ---- the places of lines
 

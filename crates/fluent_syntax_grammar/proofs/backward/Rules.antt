@@ -36,12 +36,12 @@ use Rattle.fluent_syntax_grammar.specs.Rules.{inlines_obey, named_arguments_obey
 use Rattle.fluent_syntax_grammar.specs.Readable.{is_argument_value, are_named_well, defaults, readable_rules}
 use Rattle.fluent_syntax_grammar.specs.Joined.{joined_inline, joined_maybe, joined_arguments, joined_inlines}
 use Rattle.fluent_syntax_grammar.specs.Joined.{joined_nameds, joined_variants, joined_pattern}
-use Rattle.fluent_syntax_grammar.proofs.Facts.{left_true}
-use Rattle.fluent_syntax_grammar.proofs.Tests.{both_true}
+use Rattle.fluent_syntax_grammar.proofs.Facts.{and_gives_left}
+use Rattle.fluent_syntax_grammar.proofs.Tests.{true_and_true}
 use Rattle.fluent_syntax_grammar.proofs.backward.Shapes.{IsReadExpression}
 use Rattle.fluent_syntax_grammar.proofs.backward.Words.{IsNameSpan, read_identifier_is_name_span, read_number_is_number}
 use Rattle.fluent_syntax_grammar.proofs.backward.Words.{read_string_is_string}
-use Rattle.fluent_syntax_grammar.proofs.Tests.{not_false}
+use Rattle.fluent_syntax_grammar.proofs.Tests.{not_of_false_is_true}
 
 -- ---- what a construct gives is good, wherever it is read
 
@@ -52,20 +52,20 @@ bind_reads_good : {A B : Type 0} (c : Construct A) (f : A → Construct B) (Mid 
     Ensures c Mid → ((a : A) → Mid a → Ensures (f a) Good) → (i j : ℕ) (b : B) → (c >>= f) i (Read b j) → Good b
 bind_reads_good c f Mid Good x g i j b (goes_on {j = m} {a = a} y z) = (g a (x.on_read i m a y)).on_read m j b z
 
-pub ensures_bind : {A B : Type 0} {Mid : A → Type 0} {Good : B → Type 0} {c : Construct A} {f : A → Construct B} →
+pub bind_ensures : {A B : Type 0} {Mid : A → Type 0} {Good : B → Type 0} {c : Construct A} {f : A → Construct B} →
     Ensures c Mid → ((a : A) → Mid a → Ensures (f a) Good) → Ensures (c >>= f) Good
-ensures_bind {Mid = Mid} {Good = Good} {c = c} {f = f} x g = record { on_read = bind_reads_good c f Mid Good x g }
+bind_ensures {Mid = Mid} {Good = Good} {c = c} {f = f} x g = record { on_read = bind_reads_good c f Mid Good x g }
 
 -- what is not asked of a part
-pub second_ensures : {A B : Type 0} {Good : B → Type 0} {c : Construct A} {f : A → Construct B} →
+pub bind_ensures_by_second : {A B : Type 0} {Good : B → Type 0} {c : Construct A} {f : A → Construct B} →
     ((a : A) → Ensures (f a) Good) → Ensures (c >>= f) Good
-second_ensures g = ensures_bind {Mid = λ a. Unit {0}} (record { on_read = λ i j a x. tt }) (λ a u. g a)
+bind_ensures_by_second g = bind_ensures {Mid = λ a. Unit {0}} (record { on_read = λ i j a x. tt }) (λ a u. g a)
 
 yields_reads_good : {A : Type 0} (Good : A → Type 0) (a b : A) (i j : ℕ) → Good a → yields a i (Read b j) → Good b
 yields_reads_good Good a b i j g given = g
 
-pub ensures_yields : {A : Type 0} {Good : A → Type 0} {a : A} → Good a → Ensures (yields a) Good
-ensures_yields {Good = Good} {a = a} g = record { on_read = λ i j b x. yields_reads_good Good a b i j g x }
+pub yields_ensures : {A : Type 0} {Good : A → Type 0} {a : A} → Good a → Ensures (yields a) Good
+yields_ensures {Good = Good} {a = a} g = record { on_read = λ i j b x. yields_reads_good Good a b i j g x }
 
 fails_reads_nothing : {A : Type 0} (X : Type 0) (k : Kind) (i j : ℕ) (a : A) → fails k i (Read a j) → X
 fails_reads_nothing X k i j a x = elim x [ ]
@@ -161,14 +161,14 @@ module _ (t : List ℕ) (Joins : Type 0) where
 
   pub accessor_reads_option_name : Ensures (accessor t) IsOptionName
   accessor_reads_option_name =
-      second_ensures (λ dot.
-      ensures_branch_on (λ e. ensures_bind identifier_reads_name_span (λ a g. ensures_yields g))
-      (λ e. ensures_yields refl))
+      bind_ensures_by_second (λ dot.
+      ensures_branch_on (λ e. bind_ensures identifier_reads_name_span (λ a g. yields_ensures g))
+      (λ e. yields_ensures refl))
 
   arguments_obey_joined : (a : ArgumentsTree Span) → IsArguments [] a →
       ObeysJoined Joins (arguments_obey (readable_rules One)) joined_arguments (arguments_map (bytes_at t) a)
   arguments_obey_joined (arguments ps ns) (f, g, h) =
-      record { obeys = both_true h (both_true f.obeys g.obeys); same = λ none. cc (f.same none, g.same none) }
+      record { obeys = true_and_true h (true_and_true f.obeys g.obeys); same = λ none. cc (f.same none, g.same none) }
 
   some_arguments_obey_joined : (a : ArgumentsTree Span) →
       ObeysJoined Joins (arguments_obey (readable_rules One)) joined_arguments (arguments_map (bytes_at t) a) →
@@ -179,14 +179,14 @@ module _ (t : List ℕ) (Joins : Type 0) where
       list_all is_callee_byte (bytes_at t id) ≡ true →
       IsOptionalArguments (some_arguments a) → IsInline (function_reference id a)
   function_obeys_joined id a n c f = record
-      { obeys = both_true n (both_true c f.obeys); same = λ none. cc (f.same none) }
+      { obeys = true_and_true n (true_and_true c f.obeys); same = λ none. cc (f.same none) }
 
   term_obeys_joined : (id : Span) (o : Option Span) (a : MaybeArguments Span) → IsNameSpan t id → IsOptionName o →
       IsOptionalArguments a →
       IsInline (term_reference id o a)
   term_obeys_joined id o a n p f =
       record {
-        obeys = both_true n (both_true p f.obeys);
+        obeys = true_and_true n (true_and_true p f.obeys);
         same = λ none. ap (term_reference (bytes_at t id) (option_texts (bytes_at t) o)) (f.same none);
       }
 
@@ -197,12 +197,12 @@ module _ (t : List ℕ) (Joins : Type 0) where
   named_reference_reads_value : (id : Span) (a : MaybeArguments Span) → IsNameSpan t id → IsOptionalArguments a →
       Ensures (named_reference t id a) IsValue
   named_reference_reads_value id no_arguments n f =
-      ensures_bind accessor_reads_option_name (λ o g. ensures_yields (
-        record { obeys = both_true n g; same = λ none. refl },
+      bind_ensures accessor_reads_option_name (λ o g. yields_ensures (
+        record { obeys = true_and_true n g; same = λ none. refl },
         refl,
       ))
   named_reference_reads_value id (some_arguments a) n f =
-      ensures_branch_on (λ e. ensures_yields (function_obeys_joined id a n e f, refl)) (λ e. fails_ensures_anything)
+      ensures_branch_on (λ e. yields_ensures (function_obeys_joined id a n e f, refl)) (λ e. fails_ensures_anything)
 
   joining_keeps_selector_fault_of_span : (e : InlineTree Span) →
       selector_fault (joined_inline (inline_map (bytes_at t) e)) ≡ selector_fault e
@@ -248,10 +248,10 @@ digit_start_has_digit (Some b) l e =
 
 module _ (t : List ℕ) (Joins : Type 0) (R : Family) (h : ObeysJoinedFamily t Joins R) where
   pub call_reads_optional_arguments : Ensures (call_arguments t R) (IsOptionalArguments t Joins)
-  call_reads_optional_arguments = second_ensures (λ u. second_ensures (λ bracket. ensures_branch_on
-      (λ e. ensures_bind (second_ensures (λ u. h.argument_list))
-      (λ a g. ensures_yields (some_arguments_obey_joined t Joins a (arguments_obey_joined t Joins a g))))
-      (λ e. ensures_yields (record { obeys = refl; same = λ none. refl }))))
+  call_reads_optional_arguments = bind_ensures_by_second (λ u. bind_ensures_by_second (λ bracket. ensures_branch_on
+      (λ e. bind_ensures (bind_ensures_by_second (λ u. h.argument_list))
+      (λ a g. yields_ensures (some_arguments_obey_joined t Joins a (arguments_obey_joined t Joins a g))))
+      (λ e. yields_ensures (record { obeys = refl; same = λ none. refl }))))
 
   -- ---- expressions
 
@@ -261,8 +261,8 @@ module _ (t : List ℕ) (Joins : Type 0) (R : Family) (h : ObeysJoinedFamily t J
   select_obeys_joined e vs f k g =
       let v = g.fine in
       record {
-        obeys = both_true (both_true (ap is_none (joining_keeps_selector_fault_of_span t Joins e ∙ k)) g.one)
-            (both_true f.obeys v.obeys);
+        obeys = true_and_true (true_and_true (ap is_none (joining_keeps_selector_fault_of_span t Joins e ∙ k)) g.one)
+            (true_and_true f.obeys v.obeys);
         same = λ none. cc (f.same none, v.same none);
       }
 
@@ -271,7 +271,7 @@ module _ (t : List ℕ) (Joins : Type 0) (R : Family) (h : ObeysJoinedFamily t J
   inline_obeys_joined e f k =
       record {
         obeys =
-            both_true (not_false (is_term_attribute (joined_inline (inline_map (bytes_at t) e)))
+            true_and_true (not_of_false_is_true (is_term_attribute (joined_inline (inline_map (bytes_at t) e)))
             (joining_keeps_is_term_attribute t Joins e ∙ k))
             f.obeys;
         same = λ none. ap inline (f.same none);
@@ -279,9 +279,9 @@ module _ (t : List ℕ) (Joins : Type 0) (R : Family) (h : ObeysJoinedFamily t J
 
   pub placeable_reads_good_expression : Ensures (placeable t R) (IsReadExpression t Joins)
   placeable_reads_good_expression =
-      second_ensures (λ u.
-      second_ensures (λ u.
-      ensures_bind h.expression (λ e f. second_ensures (λ u. second_ensures (λ u. ensures_yields f)))))
+      bind_ensures_by_second (λ u.
+      bind_ensures_by_second (λ u.
+      bind_ensures h.expression (λ e f. bind_ensures_by_second (λ u. bind_ensures_by_second (λ u. yields_ensures f)))))
 
   -- ---- inline expressions
 
@@ -306,43 +306,44 @@ module _ (t : List ℕ) (Joins : Type 0) (R : Family) (h : ObeysJoinedFamily t J
   read_inline_by_start_is_inline term i j e s x = (r.on_read i j e x, tt)
     where
       r : Ensures (inline_of t R term) (IsInline t Joins)
-      r = second_ensures
-          (λ u. ensures_bind (identifier_reads_name_span t Joins)
-          (λ id n. ensures_bind (accessor_reads_option_name t Joins)
-          (λ o p. ensures_bind call_reads_optional_arguments
-          (λ a f. ensures_yields (term_obeys_joined t Joins id o a n p f)))))
+      r = bind_ensures_by_second
+          (λ u. bind_ensures (identifier_reads_name_span t Joins)
+          (λ id n. bind_ensures (accessor_reads_option_name t Joins)
+          (λ o p. bind_ensures call_reads_optional_arguments
+          (λ a f. yields_ensures (term_obeys_joined t Joins id o a n p f)))))
   read_inline_by_start_is_inline dollar i j e s x = (r.on_read i j e x, tt)
     where
       r : Ensures (inline_of t R dollar) (IsInline t Joins)
-      r = second_ensures
-          (λ u. ensures_bind (identifier_reads_name_span t Joins)
-          (λ id n. ensures_yields (record { obeys = n; same = λ none. refl })))
+      r = bind_ensures_by_second
+          (λ u. bind_ensures (identifier_reads_name_span t Joins)
+          (λ id n. yields_ensures (record { obeys = n; same = λ none. refl })))
   read_inline_by_start_is_inline letter i j e s x = r.on_read i j e x
     where
       r : Ensures (inline_of t R letter) (IsValue t Joins)
-      r = ensures_bind (identifier_reads_name_span t Joins)
-          (λ id n. ensures_bind call_reads_optional_arguments (λ a f. named_reference_reads_value t Joins id a n f))
+      r = bind_ensures (identifier_reads_name_span t Joins)
+          (λ id n. bind_ensures call_reads_optional_arguments (λ a f. named_reference_reads_value t Joins id a n f))
   read_inline_by_start_is_inline brace i j e s x = (r.on_read i j e x, tt)
     where
       r : Ensures (inline_of t R brace) (IsInline t Joins)
-      r = ensures_bind placeable_reads_good_expression
-          (λ e f. ensures_yields (record { obeys = f.obeys; same = λ none. ap inline_placeable (f.same none) }))
+      r = bind_ensures placeable_reads_good_expression
+          (λ e f. yields_ensures (record { obeys = f.obeys; same = λ none. ap inline_placeable (f.same none) }))
   read_inline_by_start_is_inline other i j e s x = elim x [ ]
 
-  pub inline_inversion : (i j : ℕ) (e : InlineTree Span) → inline_expression t R i (Read e j) → IsInline t Joins e ×
+  pub inline_that_is_read_fits_its_start : (i j : ℕ) (e : InlineTree Span) → inline_expression t R i (Read e j) →
+      IsInline t Joins e ×
       FitsStart t Joins (start t i) e
-  inline_inversion i j e (chosen x) = read_inline_by_start_is_inline (start t i) i j e refl x
+  inline_that_is_read_fits_its_start i j e (chosen x) = read_inline_by_start_is_inline (start t i) i j e refl x
 
   -- ---- arguments
 
   read_value_by_start_is_value : (s : Start) (i j : ℕ) (e : InlineTree Span) → start t i ≡ s →
       argument_value t R s i (Read e j) → IsValue t Joins e
   read_value_by_start_is_value quote i j e s x =
-      let r = inline_inversion i j e x in (r.0, subst (λ s. FitsStart t Joins s e) s r.1)
+      let r = inline_that_is_read_fits_its_start i j e x in (r.0, subst (λ s. FitsStart t Joins s e) s r.1)
   read_value_by_start_is_value digit i j e s x =
-      let r = inline_inversion i j e x in (r.0, subst (λ s. FitsStart t Joins s e) s r.1)
+      let r = inline_that_is_read_fits_its_start i j e x in (r.0, subst (λ s. FitsStart t Joins s e) s r.1)
   read_value_by_start_is_value letter i j e s x =
-      let r = inline_inversion i j e x in (r.0, subst (λ s. FitsStart t Joins s e) s r.1)
+      let r = inline_that_is_read_fits_its_start i j e x in (r.0, subst (λ s. FitsStart t Joins s e) s r.1)
   read_value_by_start_is_value term i j e s x = elim x [ ]
   read_value_by_start_is_value minus i j e s x = elim x [ ]
   read_value_by_start_is_value dollar i j e s x = elim x [ ]
@@ -359,15 +360,15 @@ module _ (t : List ℕ) (Joins : Type 0) (R : Family) (h : ObeysJoinedFamily t J
       IsArguments t Joins names (add_named name e a)
   add_named_obeys_joined names name e (arguments ps ns) n u (f, v) (g, k, l) = (
     g,
-    record { obeys = both_true (both_true n f.obeys) k.obeys; same = λ none. cc (f.same none, k.same none) },
-    both_true (not_false (is_used (bytes_at t name) names) u) (both_true v l),
+    record { obeys = true_and_true (true_and_true n f.obeys) k.obeys; same = λ none. cc (f.same none, k.same none) },
+    true_and_true (not_of_false_is_true (is_used (bytes_at t name) names) u) (true_and_true v l),
   )
 
   add_positional_obeys_joined : (e : InlineTree Span) (a : ArgumentsTree Span) → IsInline t Joins e →
       IsArguments t Joins [] a →
       IsArguments t Joins [] (add_positional e a)
   add_positional_obeys_joined e (arguments ps ns) f (g, k, l) =
-      (record { obeys = both_true f.obeys g.obeys; same = λ none. cc (f.same none, g.same none) }, k, l)
+      (record { obeys = true_and_true f.obeys g.obeys; same = λ none. cc (f.same none, g.same none) }, k, l)
 
   -- what is asked of the next argument, after these names
   abbrev IsNext : List Text → More Argument (List Text) → Type 0
@@ -377,14 +378,14 @@ module _ (t : List ℕ) (Joins : Type 0) (R : Family) (h : ObeysJoinedFamily t J
       Ensures (named_rest t R names name) (IsNext names)
   named_rest_reads_next_argument names name n =
       ensures_branch_on (λ y. fails_ensures_anything)
-      (λ y. second_ensures
-      (λ u. second_ensures (λ u. ensures_bind (record { on_read = read_argument_value_is_value }) (λ e f.
-      second_ensures (λ u. ensures_yields (λ a g. add_named_obeys_joined names name e a n y f g))))))
+      (λ y. bind_ensures_by_second
+      (λ u. bind_ensures_by_second (λ u. bind_ensures (record { on_read = read_argument_value_is_value }) (λ e f.
+      bind_ensures_by_second (λ u. yields_ensures (λ a g. add_named_obeys_joined names name e a n y f g))))))
 
   positional_rest_reads_next_argument : (names : List Text) (e : InlineTree Span) → IsInline t Joins e →
       Ensures (positional_rest t names e) (IsNext names)
   positional_rest_reads_next_argument [] e f =
-      second_ensures (λ u. ensures_yields (λ a g. add_positional_obeys_joined e a f g))
+      bind_ensures_by_second (λ u. yields_ensures (λ a g. add_positional_obeys_joined e a f g))
   positional_rest_reads_next_argument (n ∷ ns) e f = fails_ensures_anything
 
   argument_name_is_name_span : (e : InlineTree Span) (s : Span) → IsInline t Joins e → argument_name e ≡ Some s →
@@ -393,7 +394,7 @@ module _ (t : List ℕ) (Joins : Type 0) (R : Family) (h : ObeysJoinedFamily t J
   argument_name_is_name_span (number_literal v) s f k = cc
   argument_name_is_name_span (function_reference id a) s f k = cc
   argument_name_is_name_span (message_reference id None) s f k = let same : id ≡ s = cc in
-      subst (IsNameSpan t) same (left_true (is_name (bytes_at t id)) true f.obeys)
+      subst (IsNameSpan t) same (and_gives_left (is_name (bytes_at t id)) true f.obeys)
   argument_name_is_name_span (message_reference id (Some a)) s f k = cc
   argument_name_is_name_span (term_reference id o a) s f k = cc
   argument_name_is_name_span (variable_reference id) s f k = cc
@@ -410,11 +411,12 @@ module _ (t : List ℕ) (Joins : Type 0) (R : Family) (h : ObeysJoinedFamily t J
       Ensures (next_argument_at t R names o) (IsNext names)
   argument_by_byte_reads_next_argument names None = fails_ensures_anything
   argument_by_byte_reads_next_argument names (Some b) = ensures_branch_on
-      (λ y. second_ensures
-      (λ u. ensures_yields
+      (λ y. bind_ensures_by_second
+      (λ u. yields_ensures
       (record { obeys = refl; same = λ none. refl }, record { obeys = refl; same = λ none. refl }, refl)))
-      (λ y. ensures_bind (record { on_read = λ i j e x. (inline_inversion i j e x).0 })
-      (λ e f. second_ensures (λ colon. argument_rest_reads_next_argument names e (argument_name e) colon refl f)))
+      (λ y. bind_ensures (record { on_read = λ i j e x. (inline_that_is_read_fits_its_start i j e x).0 })
+      (λ e f. bind_ensures_by_second
+      (λ colon. argument_rest_reads_next_argument names e (argument_name e) colon refl f)))
 
   pub more_arguments_read_arguments : (names : List Text) →
       Ensures (more_arguments t R names) (IsArguments t Joins names)

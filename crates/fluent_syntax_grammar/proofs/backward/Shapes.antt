@@ -18,8 +18,8 @@ use Rattle.fluent_syntax_grammar.specs.Readable.{is_text, ElementPosition, openi
 use Rattle.fluent_syntax_grammar.specs.Readable.{after_placeable, position_after, may_occur_at, may_precede}
 use Rattle.fluent_syntax_grammar.specs.Readable.{are_elements, readable_rules}
 use Rattle.fluent_syntax_grammar.specs.Joined.{is_joined, joined_expression, joined_pattern, joined_after}
-use Rattle.fluent_syntax_grammar.proofs.Facts.{left_true, right_true, equal, append_nothing}
-use Rattle.fluent_syntax_grammar.proofs.Tests.{both_true}
+use Rattle.fluent_syntax_grammar.proofs.Facts.{and_gives_left, and_gives_right, same_by_test, append_of_nothing_is_same}
+use Rattle.fluent_syntax_grammar.proofs.Tests.{true_and_true}
 use Rattle.fluent_syntax_grammar.proofs.backward.Texts.{is_plain, line_end, line_with_lf_is_not_empty, plain_is_text}
 use Rattle.fluent_syntax_grammar.proofs.backward.Texts.{line_with_lf_ends_in_lf}
 use Rattle.fluent_syntax_grammar.proofs.backward.Texts.{plain_text_does_not_end_in_lf, shows, nonblank_is_shows}
@@ -149,7 +149,7 @@ text_keeps_well : (m : Bool) (s : ElementPosition) (v : Text) (p : PatternTree T
     may_occur_at One m s v no_elements ≡ true → may_precede v p ≡ true → are_elements One m (position_after v) p ≡ true
     → are_elements One m s (elements (text_element v) p) ≡ true
 text_keeps_well m s v p a b c d =
-    both_true a (both_true (text_may_occur_before_any_pattern m s v p no_elements ∙ b) (both_true c d))
+    true_and_true a (true_and_true (text_may_occur_before_any_pattern m s v p no_elements ∙ b) (true_and_true c d))
 
 pub record IsWellPlaced (m : Bool) (s : ElementPosition) (p : PatternTree Text) : Type 0 where
   pub position : are_elements One m s p ≡ true
@@ -181,18 +181,19 @@ showing_text_is_not_empty [] e = cc
 showing_text_is_not_empty (x ∷ u) e = refl
 
 pub space_is_plain : (b : ℕ) → is_space b ≡ true → is_plain b ≡ true
-space_is_plain b e = let same = equal b 32 e in subst (λ b. is_plain b ≡ true) (sym same) refl
+space_is_plain b e = let same = same_by_test b 32 e in subst (λ b. is_plain b ≡ true) (sym same) refl
 
 spaces_are_plain : (u : Text) → is_spaces u ≡ true → list_all is_plain u ≡ true
 spaces_are_plain [] e = refl
 spaces_are_plain (x ∷ u) e =
-    both_true (space_is_plain x (left_true (is_space x) (is_spaces u) e))
-    (spaces_are_plain u (right_true (is_space x) (is_spaces u) e))
+    true_and_true (space_is_plain x (and_gives_left (is_space x) (is_spaces u) e))
+    (spaces_are_plain u (and_gives_right (is_space x) (is_spaces u) e))
 
 spaces_do_not_show : (u : Text) → is_spaces u ≡ true → shows u ≡ false
 spaces_do_not_show [] e = refl
 spaces_do_not_show (x ∷ u) e =
-    rw (left_true (is_space x) (is_spaces u) e) (spaces_do_not_show u (right_true (is_space x) (is_spaces u) e))
+    rw (and_gives_left (is_space x) (is_spaces u) e)
+    (spaces_do_not_show u (and_gives_right (is_space x) (is_spaces u) e))
 
 -- a blank line does not stay
 blank_line_is_not_nonblank : (w u : Text) → w ≡ u ++ line_end true → is_spaces u ≡ true → is_nonblank w ≡ true → ⊥
@@ -223,7 +224,7 @@ module _ (t : List ℕ) (Joins : Type 0) (m : Bool) where
       front_of_shown_text_begins_element m s r.kept r.rest r.shown (subst (BeginsElement m s) r.is b)
       in
       let same : slice_range t from (trimmed_end t from to) ≡ r.kept = trimmed_range_is_kept t u c from to e r in
-      let bare : r.kept ++ line_end false ≡ r.kept = append_nothing r.kept in
+      let bare : r.kept ++ line_end false ≡ r.kept = append_of_nothing_is_same r.kept in
       let is : is_text r.kept ≡ true =
       subst (λ v. is_text v ≡ true) bare
       (plain_is_text r.kept false r.plain
@@ -240,14 +241,18 @@ module _ (t : List ℕ) (Joins : Type 0) (m : Bool) where
       (joined_pattern (items_tree t xs)) →
       IsWellPlaced m s (joined_after w (items_tree t (placeable_item e ∷ xs)))
   run_before_placeable_is_well_placed s u w e xs f p n b g h =
-      let bare : u ++ line_end false ≡ u = append_nothing u in
+      let bare : u ++ line_end false ≡ u = append_of_nothing_is_same u in
       let is : is_text u ≡ true =
       subst (λ v. is_text v ≡ true) bare (plain_is_text u false p (subst (λ v. is_empty v ≡ false) (sym bare) n)) in
       let in_place : may_occur_at One m s u no_elements ≡ true =
       subst (λ v. may_occur_at One m s v no_elements ≡ true) bare (begin_holds m s u false p b) in
       let rest = joined_pattern (items_tree t (placeable_item e ∷ xs)) in
       subst (λ w. IsWellPlaced m s (joined_after w (items_tree t (placeable_item e ∷ xs)))) (sym f)
-      (record { position = text_keeps_well m s u rest is in_place refl h.position; obey = both_true g.obeys h.obey })
+      (record {
+        position = text_keeps_well m s u rest is in_place refl h.position;
+        obey =
+            true_and_true g.obeys h.obey;
+      })
 
   -- a run's text with the lone LF that is joined to it
   run_joined_with_lf_is_well_placed : (s : ElementPosition) (u w v : Text) (q : PatternTree Text) → w ≡ u → v ≡ lf ∷ []
@@ -276,7 +281,7 @@ module _ (t : List ℕ) (Joins : Type 0) (m : Bool) where
       → is_nonblank (At from to) ≡ true →
       IsWellPlaced m s (elements (text_element (slice_range t from (trimmed_end t from to))) no_elements)
   last_of_step s s' from to (runs u e p n b) k =
-      last_text_is_well_placed s u false from to (e ∙ sym (append_nothing u)) p b k
+      last_text_is_well_placed s u false from to (e ∙ sym (append_of_nothing_is_same u)) p b k
   last_of_step s s' from to (ends_line u e p b) k = last_text_is_well_placed s u true from to e p b k
   last_of_step s s' from to (blank_line u e f) k = absurd (blank_line_is_not_nonblank (At from to) u e f k)
   last_of_step s s' from to (joins e j) k = absurd (blank_line_is_not_nonblank (At from to) [] e refl k)
@@ -287,7 +292,7 @@ module _ (t : List ℕ) (Joins : Type 0) (m : Bool) where
   items_are_well_placed s [] r h k = record { position = refl; obey = refl }
   items_are_well_placed s (placeable_item e ∷ xs) r (more (places g) h) k =
       let q = items_are_well_placed after_placeable xs tt h (last_item_stays_without_first t (placeable_item e) xs k) in
-      record { position = q.position; obey = both_true g.obeys q.obey }
+      record { position = q.position; obey = true_and_true g.obeys q.obey }
   items_are_well_placed s (text from to ∷ []) r (more e h) k = last_of_step s _ from to e k
   items_are_well_placed s (text from to ∷ y ∷ ys) r (more (ends_line u e p b) h) k =
       line_before_well_placed_is_well_placed m s u (At from to) (items_tree t (y ∷ ys)) e p (begin_holds m s u true p b)
@@ -321,18 +326,27 @@ module _ (t : List ℕ) (Joins : Type 0) (m : Bool) where
   equal_parts_make_equal_elements w a b = cc (a, b)
 
   -- where nothing is there to join, they are joined already
-  pub items_same : (Joins → ⊥) → (s : ElementPosition) (xs : List Item) → Shape t Joins m s xs →
+  pub joined_pattern_without_joins_is_same : (Joins → ⊥) → (s : ElementPosition) (xs : List Item) →
+      Shape t Joins m s xs →
       joined_pattern (items_tree t xs) ≡ items_tree t xs
-  items_same none s [] h = refl
-  items_same none s (placeable_item e ∷ xs) (more (places g) h) = cc (g.same none, items_same none after_placeable xs h)
-  items_same none s (text from to ∷ []) h = refl
-  items_same none s (text from to ∷ y ∷ ys) (more (ends_line u e p b) h) =
-      line_is_not_joined_with_next (At from to) u (items_tree t (y ∷ ys)) e (items_same none after_line (y ∷ ys) h)
-  items_same none s (text from to ∷ y ∷ ys) (more (blank_line u e f) h) =
-      line_is_not_joined_with_next (At from to) u (items_tree t (y ∷ ys)) e (items_same none after_line (y ∷ ys) h)
-  items_same none s (text from to ∷ y ∷ ys) (more (joins e j) h) = absurd (none j)
-  items_same none s (text from to ∷ placeable_item x ∷ ys) (more (runs u e p n b) (more (places g) h)) =
-      equal_parts_make_equal_elements (At from to) (g.same none) (items_same none after_placeable ys h)
-  items_same none s (text from to ∷ text f g ∷ ys) (more (runs u e p n b) (more (joins i j) h)) = absurd (none j)
-  items_same none s (text from to ∷ text f g ∷ ys) (more (runs u e p n b) (more (runs v i q o c) h)) = absurd c
-  items_same none s (text from to ∷ text f g ∷ ys) (more (runs u e p n b) (more (ends_line v i q c) h)) = absurd c
+  joined_pattern_without_joins_is_same none s [] h = refl
+  joined_pattern_without_joins_is_same none s (placeable_item e ∷ xs) (more (places g) h) =
+      cc (g.same none, joined_pattern_without_joins_is_same none after_placeable xs h)
+  joined_pattern_without_joins_is_same none s (text from to ∷ []) h = refl
+  joined_pattern_without_joins_is_same none s (text from to ∷ y ∷ ys) (more (ends_line u e p b) h) =
+      line_is_not_joined_with_next (At from to) u (items_tree t (y ∷ ys)) e
+      (joined_pattern_without_joins_is_same none after_line (y ∷ ys) h)
+  joined_pattern_without_joins_is_same none s (text from to ∷ y ∷ ys) (more (blank_line u e f) h) =
+      line_is_not_joined_with_next (At from to) u (items_tree t (y ∷ ys)) e
+      (joined_pattern_without_joins_is_same none after_line (y ∷ ys) h)
+  joined_pattern_without_joins_is_same none s (text from to ∷ y ∷ ys) (more (joins e j) h) = absurd (none j)
+  joined_pattern_without_joins_is_same none s (text from to ∷ placeable_item x ∷ ys)
+      (more (runs u e p n b) (more (places g) h)) =
+      equal_parts_make_equal_elements (At from to) (g.same none)
+      (joined_pattern_without_joins_is_same none after_placeable ys h)
+  joined_pattern_without_joins_is_same none s (text from to ∷ text f g ∷ ys)
+      (more (runs u e p n b) (more (joins i j) h)) = absurd (none j)
+  joined_pattern_without_joins_is_same none s (text from to ∷ text f g ∷ ys)
+      (more (runs u e p n b) (more (runs v i q o c) h)) = absurd c
+  joined_pattern_without_joins_is_same none s (text from to ∷ text f g ∷ ys)
+      (more (runs u e p n b) (more (ends_line v i q c) h)) = absurd c

@@ -11,9 +11,9 @@ use Rattle.fluent_syntax_grammar.specs.Construct.{Read, goes_on, given, at_place
 use Rattle.fluent_syntax_grammar.specs.Construct.{second}
 use Rattle.fluent_syntax_grammar.specs.Tokens.{identifier}
 use Rattle.fluent_syntax_grammar.specs.Spellings.{is_name}
-use Rattle.fluent_syntax_grammar.proofs.Facts.{right_true, tests_imply}
-use Rattle.fluent_syntax_grammar.proofs.Tests.{both_true, letter_is_name_byte}
-use Rattle.fluent_syntax_grammar.proofs.SuffixAt.{SuffixAt, first, suffix_next, suffix_has}
+use Rattle.fluent_syntax_grammar.proofs.Facts.{and_gives_right, tests_imply}
+use Rattle.fluent_syntax_grammar.proofs.Tests.{true_and_true, letter_is_name_byte}
+use Rattle.fluent_syntax_grammar.proofs.SuffixAt.{SuffixAt, first, next_of_suffix, test_of_suffix}
 
 -- what is left at any place of the text
 drop_is_suffix : (t : List ℕ) (i : ℕ) → i ≤ length t → SuffixAt t i (drop i t)
@@ -25,8 +25,8 @@ pub taken_bytes_are_in_set : {t : List ℕ} (set : ℕ → Bool) (n : ℕ) (bs :
 taken_bytes_are_in_set set zero bs i l e = refl
 taken_bytes_are_in_set set (suc n) [] i l e = refl
 taken_bytes_are_in_set set (suc n) (b ∷ bs) i l e =
-    both_true (sym (suffix_has set l) ∙ e i (omega arith) (omega arith))
-    (taken_bytes_are_in_set set n bs (i + 1) (suffix_next l) (λ k a c. e k (omega arith) (omega arith)))
+    true_and_true (sym (test_of_suffix set l) ∙ e i (omega arith) (omega arith))
+    (taken_bytes_are_in_set set n bs (i + 1) (next_of_suffix l) (λ k a c. e k (omega arith) (omega arith)))
 
 -- the bytes of a word
 word_bytes_are_in_set : (t : List ℕ) (set : ℕ → Bool) (i j : ℕ) → i ≤ length t → ByteRun t set i j →
@@ -37,7 +37,8 @@ word_bytes_are_in_set t set i j l w = let f = w.forward in
 letter_first_makes_name : (bs : List ℕ) (n : ℕ) → holds is_letter (first bs) ≡ true →
     list_all is_name_byte (take (suc n) bs) ≡ true → is_name (take (suc n) bs) ≡ true
 letter_first_makes_name [] n e f = absurd cc
-letter_first_makes_name (b ∷ bs) n e f = both_true e (right_true (is_name_byte b) (list_all is_name_byte (take n bs)) f)
+letter_first_makes_name (b ∷ bs) n e f =
+    true_and_true e (and_gives_right (is_name_byte b) (list_all is_name_byte (take n bs)) f)
 
 module _ (t : List ℕ) where
   run_of_name_bytes_goes_on : (i j : ℕ) → i ≤ j → has t is_name_byte i ≡ true → ByteRun t is_name_byte i j → i < j
@@ -51,7 +52,7 @@ module _ (t : List ℕ) where
       (tests_imply is_letter is_name_byte (slice_get t i) letter_is_name_byte e) w in
       let size : suc (j - (i + 1)) ≡ j - i = omega arith in
       subst (λ n. is_name (take n (drop i t)) ≡ true) size
-      (letter_first_makes_name (drop i t) (j - (i + 1)) (sym (suffix_has is_letter (drop_is_suffix t i l)) ∙ e)
+      (letter_first_makes_name (drop i t) (j - (i + 1)) (sym (test_of_suffix is_letter (drop_is_suffix t i l)) ∙ e)
       (subst (λ n. list_all is_name_byte (take n (drop i t)) ≡ true) (sym size)
       (word_bytes_are_in_set t is_name_byte i j l w)))
   name_was_read i j s l (goes_on at_place (goes_on (chosen given) (second e x))) = elim x [ ]

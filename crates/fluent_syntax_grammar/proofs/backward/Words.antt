@@ -14,10 +14,12 @@ use Rattle.fluent_syntax_grammar.specs.Strings.{hex_digits, all_there, escaped, 
 use Rattle.fluent_syntax_grammar.specs.Strings.{unit_and_more, string_literal}
 use Rattle.fluent_syntax_grammar.specs.Spellings.{is_name, is_digits, is_number_rest, is_unsigned, is_number, is_units}
 use Rattle.fluent_syntax_grammar.specs.Spellings.{is_escape, is_string}
-use Rattle.fluent_syntax_grammar.proofs.Facts.{byte_exists, holds-some, differs, at_most_is_less_or_same, has_inside}
-use Rattle.fluent_syntax_grammar.proofs.Tests.{both_true}
+use Rattle.fluent_syntax_grammar.proofs.Facts.{byte_exists, holds-some, absurd_test, at_most_is_less_or_same}
+use Rattle.fluent_syntax_grammar.proofs.Facts.{byte_that_passes_is_in_text}
+use Rattle.fluent_syntax_grammar.proofs.Tests.{true_and_true}
 use Rattle.fluent_syntax_grammar.proofs.backward.Taken.{name_was_read}
-use Rattle.fluent_syntax_grammar.proofs.backward.Lines.{range_first, empty_range_is_empty, range_all, byte_at}
+use Rattle.fluent_syntax_grammar.proofs.backward.Lines.{range_begins_with_byte_at_start, empty_range_is_empty}
+use Rattle.fluent_syntax_grammar.proofs.backward.Lines.{range_passes_where_each_place_passes, tested_byte_is_at_place}
 use Rattle.fluent_syntax_grammar.proofs.Tests.{or_of_three_is_true_by_first, true_by_left, true_by_right}
 use Rattle.fluent_syntax_grammar.proofs.Tests.{or_of_three_is_true_by_second, or_of_three_is_true_by_third}
 
@@ -28,7 +30,7 @@ IsNameSpan t s = is_name (bytes_at t s) ≡ true
 module _ (t : List ℕ) where
   pub read_identifier_is_name_span : (i j : ℕ) (s : Span) → identifier t i (Read s j) → IsNameSpan t s
   read_identifier_is_name_span i j s (goes_on at_place (goes_on (chosen given) (first e x))) =
-      let l = has_inside is_letter t i e in
+      let l = byte_that_passes_is_in_text is_letter t i e in
       name_was_read t i j s (omega arith) (goes_on at_place (goes_on (chosen given) (first e x)))
   read_identifier_is_name_span i j s (goes_on at_place (goes_on (chosen given) (second e x))) = elim x [ ]
 
@@ -43,34 +45,36 @@ module _ (t : List ℕ) where
   run_of_digits_goes_on : (i j : ℕ) → has t is_digit i ≡ true → ByteRun t is_digit i j → i < j
   run_of_digits_goes_on i j e w =
       elim (at_most_is_less_or_same i j w.forward)
-      [ inl l ↦ l | inr same ↦ differs (subst (λ k. has t is_digit k ≡ true) same e) w.longest ]
+      [ inl l ↦ l | inr same ↦ absurd_test (subst (λ k. has t is_digit k ≡ true) same e) w.longest ]
 
   range_of_digits_is_digits : (i j : ℕ) → has t is_digit i ≡ true → ByteRun t is_digit i j →
       is_digits (slice_range t i j) ≡ true
   range_of_digits_is_digits i j e w =
       let l = run_of_digits_goes_on i j e w in
       let b = byte_exists is_digit (slice_get t i) e in
-      rw (range_first t i j b.0 l b.1)
-      (both_true b.2 (range_all t is_digit (i + 1) j (omega arith) (λ k x y. w.each k (omega arith) y)))
+      rw (range_begins_with_byte_at_start t i j b.0 l b.1)
+      (true_and_true b.2
+      (range_passes_where_each_place_passes t is_digit (i + 1) j (omega arith) (λ k x y. w.each k (omega arith) y)))
 
   range_of_fraction_is_number_rest : (i j : ℕ) → FractionAt i j → (i ≤ j) × (is_number_rest (slice_range t i j) ≡ true)
   range_of_fraction_is_number_rest i j no_fraction = (omega arith, ap is_number_rest (empty_range_is_empty t i))
   range_of_fraction_is_number_rest i j (point h e w) =
       let l = run_of_digits_goes_on (i + 1) j e w in (
         omega arith,
-        ap is_number_rest (range_first t i j 46 (omega arith) (byte_at t 46 i h))
+        ap is_number_rest (range_begins_with_byte_at_start t i j 46 (omega arith) (tested_byte_is_at_place t 46 i h))
             ∙ range_of_digits_is_digits (i + 1) j e w,
       )
 
-  rest_range : (n i j k : ℕ) → i + n ≡ k → ((m : ℕ) → i ≤ m → m < k → has t is_digit m ≡ true) → k ≤ j →
+  range_of_digits_continues_number : (n i j k : ℕ) → i + n ≡ k → ((m : ℕ) → i ≤ m → m < k → has t is_digit m ≡ true) →
+      k ≤ j →
       is_number_rest (slice_range t k j) ≡ true → is_number_rest (slice_range t i j) ≡ true
-  rest_range zero i j k s e l h = let same : k ≡ i = omega arith in
+  range_of_digits_continues_number zero i j k s e l h = let same : k ≡ i = omega arith in
       subst (λ k. is_number_rest (slice_range t k j) ≡ true) same h
-  rest_range (suc n) i j k s e l h =
+  range_of_digits_continues_number (suc n) i j k s e l h =
       let b = byte_exists is_digit (slice_get t i) (e i (omega arith) (omega arith)) in
-      let r = rest_range n (i + 1) j k (omega arith) (λ m x y. e m (omega arith) y) l h in
-      rw (range_first t i j b.0 (omega arith) b.1)
-      (true_by_left (is_digit b.0 && is_number_rest (slice_range t (i + 1) j)) _ (both_true b.2 r))
+      let r = range_of_digits_continues_number n (i + 1) j k (omega arith) (λ m x y. e m (omega arith) y) l h in
+      rw (range_begins_with_byte_at_start t i j b.0 (omega arith) b.1)
+      (true_by_left (is_digit b.0 && is_number_rest (slice_range t (i + 1) j)) _ (true_and_true b.2 r))
 
   -- digits, and what follows them
   range_of_digits_and_fraction_is_unsigned : (i k j : ℕ) → has t is_digit i ≡ true → ByteRun t is_digit i k →
@@ -80,8 +84,10 @@ module _ (t : List ℕ) where
       let r = range_of_fraction_is_number_rest k j f in
       let on = r.0 in
       let b = byte_exists is_digit (slice_get t i) e in
-      rw (range_first t i j b.0 (omega arith) b.1)
-      (both_true b.2 (rest_range (k - (i + 1)) (i + 1) j k (omega arith) (λ m x y. w.each m (omega arith) y) on r.1))
+      rw (range_begins_with_byte_at_start t i j b.0 (omega arith) b.1)
+      (true_and_true b.2
+      (range_of_digits_continues_number (k - (i + 1)) (i + 1) j k (omega arith) (λ m x y. w.each m (omega arith) y)
+      on r.1))
 
   unsigned_is_number : (v : List ℕ) → is_unsigned v ≡ true → is_number v ≡ true
   unsigned_is_number [] e = cc
@@ -110,7 +116,8 @@ module _ (t : List ℕ) where
   read_fraction_is_fraction k p j found u (chosen (second e given)) (second g given) = no_fraction
 
   minus_is_no_digit : (i : ℕ) → has_byte t 45 i ≡ true → has t is_digit i ≡ true → ⊥
-  minus_is_no_digit i e f = let g : has t is_digit i ≡ false = ap (holds is_digit) (byte_at t 45 i e) in cc
+  minus_is_no_digit i e f = let g : has t is_digit i ≡ false = ap (holds is_digit) (tested_byte_is_at_place t 45 i e) in
+      cc
 
   digits_after_minus_are_number : (i m k j : ℕ) → has_byte t 45 i ≡ true → m ≡ i + 1 → has t is_digit m ≡ true →
       ByteRun t is_digit m k → FractionAt k j → IsNumber i (record { start = i; end = j })
@@ -122,7 +129,7 @@ module _ (t : List ℕ) where
       let v' : is_unsigned (slice_range t (i + 1) j) ≡ true = subst (λ m. is_unsigned (slice_range t m j) ≡ true) s v in
       record {
         number =
-            ap is_number (range_first t i j 45 (omega arith) (byte_at t 45 i e))
+            ap is_number (range_begins_with_byte_at_start t i j 45 (omega arith) (tested_byte_is_at_place t 45 i e))
             ∙ true_by_left (is_unsigned (slice_range t (i + 1) j)) (is_unsigned (45 ∷ slice_range t (i + 1) j)) v';
         unsigned = λ d. absurd (minus_is_no_digit i e d);
       }
@@ -156,8 +163,9 @@ module _ (t : List ℕ) where
       subst (λ k. is_units 0 (slice_range t k j) ≡ true) same h
   hex_digits_before_units_are_units (suc n) i j k s e l h =
       let b = byte_exists is_ascii_hexdigit (slice_get t i) (e i (omega arith) (omega arith)) in
-      rw (range_first t i j b.0 (omega arith) b.1)
-      (both_true b.2 (hex_digits_before_units_are_units n (i + 1) j k (omega arith) (λ m x y. e m (omega arith) y) l h))
+      rw (range_begins_with_byte_at_start t i j b.0 (omega arith) b.1)
+      (true_and_true b.2
+      (hex_digits_before_units_are_units n (i + 1) j k (omega arith) (λ m x y. e m (omega arith) y) l h))
 
   read_hex_digits_are_units : (w i j k : ℕ) (u : Unit {0}) → hex_digits t w i (Read u k) → k ≤ j →
       is_units 0 (slice_range t k j) ≡ true →
@@ -176,8 +184,9 @@ module _ (t : List ℕ) where
   escape_of_two_bytes_begins_units i j c e f l h =
       let s : (i + 1) + 1 ≡ i + 2 = omega arith in
       let r : slice_range t (i + 1) j ≡ c ∷ slice_range t (i + 2) j =
-      subst (λ k. slice_range t (i + 1) j ≡ c ∷ slice_range t k j) s (range_first t (i + 1) j c (omega arith) f) in
-      ap (is_units 0) (range_first t i j 92 (omega arith) e)
+      subst (λ k. slice_range t (i + 1) j ≡ c ∷ slice_range t k j) s
+      (range_begins_with_byte_at_start t (i + 1) j c (omega arith) f) in
+      ap (is_units 0) (range_begins_with_byte_at_start t i j 92 (omega arith) e)
       ∙ true_by_left (is_escape (slice_range t (i + 1) j)) _ (ap is_escape r ∙ h)
 
   read_hex_digits_have_their_count : (w i m : ℕ) (u : Unit {0}) → hex_digits t w i (Read u m) → m ≡ i + w
@@ -195,7 +204,7 @@ module _ (t : List ℕ) where
             λ j l r. escape_of_two_bytes_begins_units i j c f e (omega arith)
             (or_of_three_is_true_by_first ((c == 92 || c == 34 || c == 123) && is_units 0 (slice_range t (i + 2) j))
             (c == 117 && is_units 4 (slice_range t (i + 2) j)) (c == 85 && is_units 6 (slice_range t (i + 2) j))
-            (both_true g (subst (λ k. is_units 0 (slice_range t k j) ≡ true) by r)));
+            (true_and_true g (subst (λ k. is_units 0 (slice_range t k j) ≡ true) by r)));
       }
   read_escape_is_unit i m u (Some c) e f (second g (first h (goes_on (passed {j = k} o) y))) =
       let by = o.by in
@@ -206,7 +215,7 @@ module _ (t : List ℕ) where
             λ j l r. escape_of_two_bytes_begins_units i j c f e (omega arith)
             (or_of_three_is_true_by_second ((c == 92 || c == 34 || c == 123) && is_units 0 (slice_range t (i + 2) j))
             (c == 117 && is_units 4 (slice_range t (i + 2) j)) (c == 85 && is_units 6 (slice_range t (i + 2) j))
-            (both_true h
+            (true_and_true h
             (subst (λ k. is_units 4 (slice_range t k j) ≡ true) by (read_hex_digits_are_units 4 k j m u y l r))));
       }
   read_escape_is_unit i m u (Some c) e f (second g (second h (first n (goes_on (passed {j = k} o) y)))) =
@@ -218,7 +227,7 @@ module _ (t : List ℕ) where
             λ j l r. escape_of_two_bytes_begins_units i j c f e (omega arith)
             (or_of_three_is_true_by_third ((c == 92 || c == 34 || c == 123) && is_units 0 (slice_range t (i + 2) j))
             (c == 117 && is_units 4 (slice_range t (i + 2) j)) (c == 85 && is_units 6 (slice_range t (i + 2) j))
-            (both_true n
+            (true_and_true n
             (subst (λ k. is_units 6 (slice_range t k j) ≡ true) by (read_hex_digits_are_units 6 k j m u y l r))));
       }
   read_escape_is_unit i m u (Some c) e f (second g (second h (second n x))) = elim x [ ]
@@ -237,15 +246,15 @@ module _ (t : List ℕ) where
   read_unit_is_unit i m u (Some b) e q (first f x) = elim x [ ]
   read_unit_is_unit i m u (Some b) e q (second f (first g (chosen x))) =
       read_escape_is_unit i m u (slice_get t (i + 1)) refl
-      (byte_at t 92 i (holds-some (λ c. c == 92) (slice_get t i) b e g)) x
+      (tested_byte_is_at_place t 92 i (holds-some (λ c. c == 92) (slice_get t i) b e g)) x
   read_unit_is_unit i m u (Some b) e q (second f (second g (passed o))) =
       let by = o.by in
       record {
         on = omega arith;
         more =
-            λ j l r. ap (is_units 0) (range_first t i j b (omega arith) e)
+            λ j l r. ap (is_units 0) (range_begins_with_byte_at_start t i j b (omega arith) e)
             ∙ true_by_right (b == 92 && is_escape (slice_range t (i + 1) j))
-            _ (both_true (other_byte_passes_unit_test b g (byte_off_quote_is_no_quote i b e q) f)
+            _ (true_and_true (other_byte_passes_unit_test b g (byte_off_quote_is_no_quote i b e q) f)
             (subst (λ k. is_units 0 (slice_range t k j) ≡ true) by
             r));
       }

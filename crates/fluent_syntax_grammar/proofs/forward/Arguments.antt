@@ -26,19 +26,22 @@ use Rattle.fluent_syntax_grammar.specs.Arguments.{separator, positional_rest, na
 use Rattle.fluent_syntax_grammar.specs.Arguments.{argument_value}
 use Rattle.fluent_syntax_grammar.specs.Grammar as grammar
 use Rattle.fluent_syntax_grammar.specs.Grammar.{family, inline_expression, call_arguments}
-use Rattle.fluent_syntax_grammar.proofs.Facts.{left_true, equal}
-use Rattle.fluent_syntax_grammar.proofs.Tests.{or_cases, differ}
+use Rattle.fluent_syntax_grammar.proofs.Facts.{and_gives_left, same_by_test}
+use Rattle.fluent_syntax_grammar.proofs.Tests.{or_has_true_side, parted_by_test}
 use Rattle.fluent_syntax_grammar.proofs.Nesting.{argument_list_of_family_is_in_family}
-use Rattle.fluent_syntax_grammar.proofs.SuffixAt.{SuffixAt, suffix_as, first, suffix_first, suffix_has}
-use Rattle.fluent_syntax_grammar.proofs.forward.Reading.{Reads, Passes, reads_bind, reads_yields, passes_then}
-use Rattle.fluent_syntax_grammar.proofs.forward.Reading.{reads_peek, look_reads_what_follows, reads_first, reads_second}
+use Rattle.fluent_syntax_grammar.proofs.SuffixAt.{SuffixAt, suffix_by_equality, first, first_of_suffix, test_of_suffix}
+use Rattle.fluent_syntax_grammar.proofs.forward.Reading.{Reads, Passes, reads_bind, yields_reads_its_view, passes_then}
+use Rattle.fluent_syntax_grammar.proofs.forward.Reading.{reads_peek, look_reads_what_follows, first_branch_reads}
+use Rattle.fluent_syntax_grammar.proofs.forward.Reading.{second_branch_reads}
 use Rattle.fluent_syntax_grammar.proofs.forward.Reading.{including_construct_reads_alike, present_byte_is_read}
-use Rattle.fluent_syntax_grammar.proofs.forward.Reading.{reads_absent, passes_token}
+use Rattle.fluent_syntax_grammar.proofs.forward.Reading.{optional_reads_that_byte_is_absent, token_passes_its_byte}
 use Rattle.fluent_syntax_grammar.proofs.forward.Reading.{more_map, list_reads_its_end, list_reads_item_and_rest}
 use Rattle.fluent_syntax_grammar.proofs.marks.WrittenBytes.{inline_bytes, arguments_bytes, positional_bytes}
 use Rattle.fluent_syntax_grammar.proofs.marks.WrittenBytes.{named_bytes, is_none_of}
-use Rattle.fluent_syntax_grammar.proofs.forward.Inline.{Follows, bytes_past, passes_blank, passes_blanks, starts_with}
-use Rattle.fluent_syntax_grammar.proofs.forward.Inline.{start_of-digit, name_start, message_name_reads_back}
+use Rattle.fluent_syntax_grammar.proofs.forward.Inline.{Follows, bytes_past, passes_blank, passes_blanks}
+use Rattle.fluent_syntax_grammar.proofs.forward.Inline.{inline_start_is_that_of_bytes}
+use Rattle.fluent_syntax_grammar.proofs.forward.Inline.{start_of-digit, name_starts_with_letter}
+use Rattle.fluent_syntax_grammar.proofs.forward.Inline.{message_name_reads_back}
 
 -- a byte that begins an inline expression
 abbrev pub begins_inline : ℕ → Bool
@@ -76,41 +79,48 @@ name_begins_inline (b ∷ bs) tail e =
       byte = b;
       rest = bs ++ tail;
       are = refl;
-      start = letter_begins_inline b (left_true (is_letter b) (list_all is_name_byte bs) e);
+      start = letter_begins_inline b (and_gives_left (is_letter b) (list_all is_name_byte bs) e);
     }
 
 pub number_begins_inline : (v tail : List ℕ) → is_number v ≡ true → Begins (v ++ tail)
 number_begins_inline [] tail e = absurd cc
-number_begins_inline (b ∷ bs) tail e = elim (or_cases (b == 45 && is_unsigned bs) (is_unsigned (b ∷ bs)) e) [
+number_begins_inline (b ∷ bs) tail e = elim (or_has_true_side (b == 45 && is_unsigned bs) (is_unsigned (b ∷ bs)) e) [
   | inl h ↦ record {
     byte = b;
     rest = bs ++ tail;
     are = refl;
-    start = ap begins_inline (equal b 45 (left_true (b == 45) (is_unsigned bs) h));
+    start = ap begins_inline (same_by_test b 45 (and_gives_left (b == 45) (is_unsigned bs) h));
   }
   | inr h ↦ record {
     byte = b;
     rest = bs ++ tail;
     are = refl;
-    start = digit_begins_inline b (left_true (is_digit b) (is_number_rest bs) h);
+    start = digit_begins_inline b (and_gives_left (is_digit b) (is_number_rest bs) h);
   }
 ]
 
 module _ (edition : Edition) where
   -- what an inline expression begins with
-  pub inline_begins : (level : ℕ) (e : InlineTree Text) (tail : List ℕ) →
+  pub canonical_inline_begins_inline : (level : ℕ) (e : InlineTree Text) (tail : List ℕ) →
       inline_obeys (canonical_rules edition) e ≡ true → Begins (inline_bytes level e tail)
-  inline_begins level (string_literal v) tail h = record { byte = 34; rest = _; are = refl; start = refl }
-  inline_begins level (number_literal v) tail h = number_begins_inline v tail h
-  inline_begins level (function_reference id a) tail h = name_begins_inline id _ (left_true (is_name id) _ h)
-  inline_begins level (message_reference id a) tail h = name_begins_inline id _ (left_true (is_name id) _ h)
-  inline_begins level (term_reference id a c) tail h = record { byte = 45; rest = _; are = refl; start = refl }
-  inline_begins level (variable_reference id) tail h = record { byte = 36; rest = _; are = refl; start = refl }
-  inline_begins level (inline_placeable e) tail h = record { byte = 123; rest = _; are = refl; start = refl }
+  canonical_inline_begins_inline level (string_literal v) tail h =
+      record { byte = 34; rest = _; are = refl; start = refl }
+  canonical_inline_begins_inline level (number_literal v) tail h = number_begins_inline v tail h
+  canonical_inline_begins_inline level (function_reference id a) tail h =
+      name_begins_inline id _ (and_gives_left (is_name id) _ h)
+  canonical_inline_begins_inline level (message_reference id a) tail h =
+      name_begins_inline id _ (and_gives_left (is_name id) _ h)
+  canonical_inline_begins_inline level (term_reference id a c) tail h =
+      record { byte = 45; rest = _; are = refl; start = refl }
+  canonical_inline_begins_inline level (variable_reference id) tail h =
+      record { byte = 36; rest = _; are = refl; start = refl }
+  canonical_inline_begins_inline level (inline_placeable e) tail h =
+      record { byte = 123; rest = _; are = refl; start = refl }
 
 -- a byte that begins an inline expression is not this one
-pub begins_other : (c : ℕ) {bs : List ℕ} → Begins bs → begins_inline c ≡ false → holds (λ b. b == c) (first bs) ≡ false
-begins_other c b e = rw (b.are) (differ begins_inline b.byte c b.start e)
+pub beginning_of_inline_is_no_other_byte : (c : ℕ) {bs : List ℕ} → Begins bs → begins_inline c ≡ false →
+    holds (λ b. b == c) (first bs) ≡ false
+beginning_of_inline_is_no_other_byte c b e = rw (b.are) (parted_by_test begins_inline b.byte c b.start e)
 
 bytes_past_no_gap_are_the_rest : (e : InlineTree Text) (more : List ℕ) → bytes_past e [] more ≡ more
 bytes_past_no_gap_are_the_rest e more = same (passes_blank e)
@@ -168,8 +178,9 @@ module _ (edition : Edition) (t : List ℕ) where
     begins = λ tail. inr (refl, refl);
     back =
         λ i tail l. list_reads_its_end {f = said t} {g = λ ns. ns}
-        (reads_peek (Some 41) (suffix_first l)
-        (reads_first refl (passes_then (passes_token 41 refl l) (λ j m. reads_yields refl m)))) refl;
+        (reads_peek (Some 41) (first_of_suffix l)
+        (first_branch_reads refl (passes_then (token_passes_its_byte 41 refl l) (λ j m. yields_reads_its_view refl m))))
+        refl;
   }
 
   -- between two arguments, or before the end of the list
@@ -180,19 +191,24 @@ module _ (edition : Edition) (t : List ℕ) where
       Passes t (separator t) i (positional_bytes level true ps (named_bytes level (is_none_of ps) ns (41 ∷ tail)))
   separator_before_arguments_is_passed level names no_inlines no_named i tail h l =
       passes_then (passes_blanks [] (41 ∷ tail) refl refl refl refl l)
-      (λ j m. reads_bind (reads_absent 44 refl m) (λ b k e n. passes_blanks [] (41 ∷ tail) refl refl refl refl n))
+      (λ j m. reads_bind (optional_reads_that_byte_is_absent 44 refl m)
+      (λ b k e n. passes_blanks [] (41 ∷ tail) refl refl refl refl n))
   separator_before_arguments_is_passed level names no_inlines (nameds n ns) i tail h l =
       passes_then (passes_blanks [] _ refl refl refl refl l)
       (λ j m. reads_bind (present_byte_is_read 44 refl m) (λ b k e n. elim (h.begins (41 ∷ tail)) [
-        | inl x ↦ passes_blanks (32 ∷ []) _ refl (begins_other 32 x refl) (begins_other lf x refl)
-            (begins_other cr x refl) n
+        | inl x ↦
+            passes_blanks (32 ∷ []) _ refl (beginning_of_inline_is_no_other_byte 32 x refl)
+            (beginning_of_inline_is_no_other_byte lf x refl)
+            (beginning_of_inline_is_no_other_byte cr x refl) n
         | inr x ↦ absurd cc
       ]))
   separator_before_arguments_is_passed level names (inlines e es) ns i tail h l =
       passes_then (passes_blanks [] _ refl refl refl refl l)
       (λ j m. reads_bind (present_byte_is_read 44 refl m) (λ b k f n. elim (h.begins (41 ∷ tail)) [
-        | inl x ↦ passes_blanks (32 ∷ []) _ refl (begins_other 32 x refl) (begins_other lf x refl)
-            (begins_other cr x refl) n
+        | inl x ↦
+            passes_blanks (32 ∷ []) _ refl (beginning_of_inline_is_no_other_byte 32 x refl)
+            (beginning_of_inline_is_no_other_byte lf x refl)
+            (beginning_of_inline_is_no_other_byte cr x refl) n
         | inr x ↦ absurd cc
       ]))
 
@@ -268,25 +284,25 @@ module _ (edition : Edition) (t : List ℕ) where
       left →
       ReadsNext names i a left
   argument_reads_at_its_first_byte names i bs a left b l r =
-      (reads_peek (Some b.byte) (suffix_first l ∙ ap first b.are)
-      (reads_second (differ begins_inline b.byte 41 b.start refl) r))
+      (reads_peek (Some b.byte) (first_of_suffix l ∙ ap first b.are)
+      (second_branch_reads (parted_by_test begins_inline b.byte 41 b.start refl) r))
 
   pub positional_reads_back : (level : ℕ) (e : InlineTree Text) (es : InlineTrees Text) (ns : NamedTrees Text) →
       InlineReadsBack edition t level e → ArgumentListReadsBack edition t level [] es ns →
       ArgumentListReadsBack edition t level [] (inlines e es) ns
   positional_reads_back level e es ns h more = record {
-    begins = λ tail. inl (inline_begins edition level e _ h.obeys);
+    begins = λ tail. inl (canonical_inline_begins_inline edition level e _ h.obeys);
     back = λ i tail l.
         let rest = positional_bytes level false es (named_bytes level false ns (41 ∷ tail)) in
         list_reads_item_and_rest {c = says_positional e} {q = []}
-        (argument_reads_at_its_first_byte [] i _ _ _ (inline_begins edition level e rest h.obeys) l
+        (argument_reads_at_its_first_byte [] i _ _ _ (canonical_inline_begins_inline edition level e rest h.obeys) l
         (reads_bind (h.back i [] rest (rest_of_arguments_follows_positional level es ns tail) l) (λ v j f m.
-        let n = suffix_as (bytes_past_no_gap_are_the_rest e rest) m in
+        let n = suffix_by_equality (bytes_past_no_gap_are_the_rest e rest) m in
         look_reads_what_follows (has_byte t 58 j) refl
         (inline_reads_as_positional_argument [] v (argument_name v) (has_byte t 58 j) j _ _
-        (suffix_has (λ b. b == 58) n ∙ no_colon_follows_positional level es ns tail)
+        (test_of_suffix (λ b. b == 58) n ∙ no_colon_follows_positional level es ns tail)
         (passes_then (separator_before_arguments_is_passed level [] es ns j tail more n)
-        (λ k q. reads_yields (ap (λ e. item (says_positional e) []) f) q))))))
+        (λ k q. yields_reads_its_view (ap (λ e. item (says_positional e) []) f) q))))))
         (arguments_read_back_after_equal_names level [] es ns tail more)
         (λ v a f g. added_positional_spells_its_tree v a e es ns f g);
   }
@@ -332,14 +348,17 @@ module _ (edition : Edition) (t : List ℕ) where
       SuffixAt t i (inline_bytes level e tail) →
       Reads t (grammar.inline_expression edition t) (inline_map (bytes_at t)) i e left →
       Reads t (peek (start t) (argument_value t (family edition t))) (inline_map (bytes_at t)) i e left
-  argument_value_reads_back level (string_literal v) i tail left h a l r = reads_peek quote (starts_with quote refl l) r
+  argument_value_reads_back level (string_literal v) i tail left h a l r =
+      reads_peek quote (inline_start_is_that_of_bytes quote refl l) r
   argument_value_reads_back level (number_literal []) i tail left h a l r = absurd cc
   argument_value_reads_back level (number_literal (b ∷ bs)) i tail left h a l r =
-      reads_peek digit (starts_with digit (start_of-digit b _ (left_true (is_digit b) (is_number_rest bs) a)) l) r
+      reads_peek digit
+      (inline_start_is_that_of_bytes digit (start_of-digit b _ (and_gives_left (is_digit b) (is_number_rest bs) a))
+      l) r
   argument_value_reads_back level (function_reference id c) i tail left h a l r =
-      reads_peek letter (name_start edition t i id _ (left_true (is_name id) _ h) l) r
+      reads_peek letter (name_starts_with_letter edition t i id _ (and_gives_left (is_name id) _ h) l) r
   argument_value_reads_back level (message_reference id c) i tail left h a l r =
-      reads_peek letter (name_start edition t i id _ (left_true (is_name id) _ h) l) r
+      reads_peek letter (name_starts_with_letter edition t i id _ (and_gives_left (is_name id) _ h) l) r
   argument_value_reads_back level (term_reference id c d) i tail left h a l r = absurd cc
   argument_value_reads_back level (variable_reference id) i tail left h a l r = absurd cc
   argument_value_reads_back level (inline_placeable x) i tail left h a l r = absurd cc
@@ -355,17 +374,18 @@ module _ (edition : Edition) (t : List ℕ) where
       (item (says_named name e) (name ∷ names)) (named_bytes level true ns (41 ∷ tail))
   named_argument_reads_back_from_colon level names name e ns h used value more id i tail f l =
       let rest = named_bytes level false ns (41 ∷ tail) in
-      let b = inline_begins edition level e rest h.obeys in
-      reads_second (rw f used)
-      (passes_then (passes_token 58 refl l)
+      let b = canonical_inline_begins_inline edition level e rest h.obeys in
+      second_branch_reads (rw f used)
+      (passes_then (token_passes_its_byte 58 refl l)
       (λ j m. passes_then
-      (passes_blanks (32 ∷ []) _ refl (begins_other 32 b refl) (begins_other lf b refl) (begins_other cr b refl)
+      (passes_blanks (32 ∷ []) _ refl (beginning_of_inline_is_no_other_byte 32 b refl)
+      (beginning_of_inline_is_no_other_byte lf b refl) (beginning_of_inline_is_no_other_byte cr b refl)
       m) (λ k n.
       reads_bind (argument_value_reads_back level e k rest (bytes_past e [] rest) h.obeys value n
       (h.back k [] rest (rest_of_arguments_follows_positional level no_inlines ns tail) n)) (λ v p g q.
       passes_then (separator_before_arguments_is_passed level (name ∷ names) no_inlines ns p tail more
-      (suffix_as (bytes_past_no_gap_are_the_rest e rest) q))
-      (λ y z. reads_yields (same_item v f g) z)))))
+      (suffix_by_equality (bytes_past_no_gap_are_the_rest e rest) q))
+      (λ y z. yields_reads_its_view (same_item v f g) z)))))
     where
       same_item : (v : InlineTree Span) → bytes_at t id ≡ name → inline_map (bytes_at t) v ≡ e →
           item (says_named (bytes_at t id) (inline_map (bytes_at t) v)) (bytes_at t id ∷ names) ≡
@@ -399,7 +419,7 @@ module _ (edition : Edition) (t : List ℕ) where
         let n = bare_message_reference_is_name v name g in
         look_reads_what_follows (has_byte t 58 j) refl
         (name_and_colon_read_as_named_argument names v n.id (argument_name v) (has_byte t 58 j) j _ _ n.is
-        (suffix_has (λ b. b == 58) m)
+        (test_of_suffix (λ b. b == 58) m)
         (named_argument_reads_back_from_colon level names name e ns h used value more n.id j tail n.spells m)))))
         (arguments_read_back_after_equal_names level (name ∷ names) no_inlines ns tail more)
         (λ v a f g. added_named_spells_its_tree v a name e no_inlines ns f g);
@@ -414,10 +434,10 @@ module _ (edition : Edition) (t : List ℕ) where
       Reads t (call_arguments edition t) (maybe_map (bytes_at t)) i (some_arguments (arguments ps ns)) tail
   call_reads_back level ps ns h i tail l =
       passes_then (passes_blanks [] _ refl refl refl refl l)
-      (λ j m. reads_bind (present_byte_is_read 40 refl m) (λ b k e n. reads_first e
+      (λ j m. reads_bind (present_byte_is_read 40 refl m) (λ b k e n. first_branch_reads e
       (reads_bind (passes_then (inside k n) (λ p q.
       including_construct_reads_alike (λ o x. argument_list_of_family_is_in_family edition t p o x) (h.back p tail q)))
-      (λ a w x s. reads_yields (ap some_arguments x) s))))
+      (λ a w x s. yields_reads_its_view (ap some_arguments x) s))))
     where
       at_end : (ps : InlineTrees Text) (ns : NamedTrees Text) (k : ℕ) → (ps ≡ no_inlines) ×
           (ns ≡ no_named) →
@@ -431,6 +451,8 @@ module _ (edition : Edition) (t : List ℕ) where
           SuffixAt t k (positional_bytes level true ps (named_bytes level (is_none_of ps) ns (41 ∷ tail))) →
           Passes t (blank t) k (positional_bytes level true ps (named_bytes level (is_none_of ps) ns (41 ∷ tail)))
       inside k n = elim (h.begins (41 ∷ tail)) [
-        | inl b ↦ passes_blanks [] _ refl (begins_other 32 b refl) (begins_other lf b refl) (begins_other cr b refl) n
+        | inl b ↦
+            passes_blanks [] _ refl (beginning_of_inline_is_no_other_byte 32 b refl)
+            (beginning_of_inline_is_no_other_byte lf b refl) (beginning_of_inline_is_no_other_byte cr b refl) n
         | inr x ↦ at_end ps ns k x n
       ]

@@ -25,14 +25,17 @@ use Rattle.fluent_syntax_grammar.specs.Rules.{option_obeys, pattern_obeys, attri
 use Rattle.fluent_syntax_grammar.specs.Readable.{has_field, are_lines}
 use Rattle.fluent_syntax_grammar.specs.Canonical.{canonical_rules, is_canonical}
 use Rattle.fluent_syntax_grammar.specs.RoundTrip.{ReadsAs, tree_of}
-use Rattle.fluent_syntax_grammar.proofs.Facts.{left_true, right_true, number_eq_self}
-use Rattle.fluent_syntax_grammar.proofs.Tests.{differ}
+use Rattle.fluent_syntax_grammar.proofs.Facts.{and_gives_left, and_gives_right, number_eq_self}
+use Rattle.fluent_syntax_grammar.proofs.Tests.{parted_by_test}
 use Rattle.fluent_syntax_grammar.proofs.Cuts.{block_goes_on}
-use Rattle.fluent_syntax_grammar.proofs.SuffixAt.{SuffixAt, suffix_as, whole_text_is_suffix, suffix_first, suffix_next}
+use Rattle.fluent_syntax_grammar.proofs.SuffixAt.{SuffixAt, suffix_by_equality, whole_text_is_suffix, first_of_suffix}
+use Rattle.fluent_syntax_grammar.proofs.SuffixAt.{next_of_suffix}
 use Rattle.fluent_syntax_grammar.proofs.SuffixAt.{suffix_reaches_end_of_text}
 use Rattle.fluent_syntax_grammar.proofs.forward.Reading.{Reads, including_construct_reads_alike}
-use Rattle.fluent_syntax_grammar.proofs.forward.Lines.{Ends, stop, blank_line, no_spaces, lf_after}
-use Rattle.fluent_syntax_grammar.proofs.forward.Entries.{EntryStart, no_entry, begins, ends_at_entry, no_block, Tiles}
+use Rattle.fluent_syntax_grammar.proofs.forward.Lines.{Ends, stop, blank_line, inline_blank_without_space_is_empty}
+use Rattle.fluent_syntax_grammar.proofs.forward.Lines.{line_end_at_lf_is_one_byte}
+use Rattle.fluent_syntax_grammar.proofs.forward.Entries.{EntryStart, no_entry, begins, ends_at_entry}
+use Rattle.fluent_syntax_grammar.proofs.forward.Entries.{blank_block_is_empty_at_entry_start, Tiles}
 use Rattle.fluent_syntax_grammar.proofs.forward.Entries.{end_of_text_has_no_tiles}
 use Rattle.fluent_syntax_grammar.proofs.marks.WrittenBytes.{pattern_bytes}
 use Rattle.fluent_syntax_grammar.proofs.marks.WrittenEntries.{after_hashes, comment_bytes, more_attributes}
@@ -138,16 +141,18 @@ module _ (edition : Edition) (t : List ℕ) where
   -- a blank line before tiles
   pub tiles_hold_from_lf_before : (i : ℕ) (bs : List ℕ) (tiles : List Tile) → SuffixAt t i (lf ∷ bs) →
       Tiled t (TileAt edition t) (i + 1) tiles → Tiled t (TileAt edition t) i tiles
-  tiles_hold_from_lf_before i bs tiles l (done b) = done (line (no_spaces edition t refl l) (lf_after edition t l) b)
+  tiles_hold_from_lf_before i bs tiles l (done b) =
+      done (line (inline_blank_without_space_is_empty edition t refl l) (line_end_at_lf_is_one_byte edition t l) b)
   tiles_hold_from_lf_before i bs tiles l (next b m a n) =
-      next (line (no_spaces edition t refl l) (lf_after edition t l) b) m a n
+      next (line (inline_blank_without_space_is_empty edition t refl l) (line_end_at_lf_is_one_byte edition t l) b) m a
+      n
 
   -- blank lines before tiles
   tiles_hold_from_end_of_pattern : (tail rest : List ℕ) (es : BodyTree Text) (i : ℕ) → Ends tail rest →
       SuffixAt t i tail → ((j : ℕ) → SuffixAt t j rest → Tiles edition t j es) → Tiles edition t i es
   tiles_hold_from_end_of_pattern tail rest es i (stop s) l k = k i l
   tiles_hold_from_end_of_pattern tail rest es i (blank_line {tail = more} e) l k =
-      let n = tiles_hold_from_end_of_pattern more rest es (i + 1) e (suffix_next l) k in
+      let n = tiles_hold_from_end_of_pattern more rest es (i + 1) e (next_of_suffix l) k in
       record {
         tiles = n.tiles;
         tiled = tiles_hold_from_lf_before i more n.tiles l n.tiled;
@@ -159,7 +164,8 @@ module _ (edition : Edition) (t : List ℕ) where
   pub comment_at_hash_reads_as_entry : (i b : ℕ) (bs : List ℕ) (e : EntryTree Span) (j : ℕ) → (b == 35) ≡ true →
       SuffixAt t i (b ∷ bs) → comment_entry t i (Read e j) → entry_at edition t i (Read e j)
   comment_at_hash_reads_as_entry i b bs e j is l r =
-      chosen (subst (λ o. entry_of edition t (family edition t) o i (Read e j)) (sym (suffix_first l)) (first_of is r))
+      chosen (subst (λ o. entry_of edition t (family edition t) o i (Read e j)) (sym (first_of_suffix l))
+      (first_of is r))
 
   -- a message or a term
   entry_alone_is_tiled : (e : EntryTree Text) (es : BodyTree Text) (i b : ℕ) (bs rest : List ℕ) →
@@ -173,7 +179,8 @@ module _ (edition : Edition) (t : List ℕ) where
       let s : Span = record { start = i; end = r.end } in
       record {
         tiles = entry s r.value ∷ n.tiles;
-        tiled = next (no_block edition t i (b ∷ bs) (begins b bs is) l) (entry_begins_inside_text i b bs l)
+        tiled = next (blank_block_is_empty_at_entry_start edition t i (b ∷ bs) (begins b bs is) l)
+            (entry_begins_inside_text i b bs l)
             (reads r.reads) n.tiled;
         no_faults = n.no_faults;
         same =
@@ -207,10 +214,11 @@ module _ (edition : Edition) (t : List ℕ) where
                 entry (record { start = i; end = q.end }) (comment regular d) ∷
                 entry (record { start = q.end; end = o.end }) o.value ∷ n.tiles;
             tiled =
-                next (no_block edition t i (c ∷ cs) (begins c cs (hash_is_entry_byte c is)) l)
+                next (blank_block_is_empty_at_entry_start edition t i (c ∷ cs) (begins c cs (hash_is_entry_byte c is))
+                l)
                 (entry_begins_inside_text i c cs l)
                 (reads (comment_at_hash_reads_as_entry i c cs (comment regular d) q.end is l x))
-                (next (no_block edition t q.end (b ∷ bs) (begins b bs is') q.rest)
+                (next (blank_block_is_empty_at_entry_start edition t q.end (b ∷ bs) (begins b bs is') q.rest)
                 (entry_begins_inside_text q.end b bs q.rest)
                 (reads o.reads) n.tiled);
             no_faults = n.no_faults;
@@ -247,11 +255,12 @@ module _ (edition : Edition) (t : List ℕ) where
       free_tiles (term m) f x = absurd cc
       free_tiles (junk m) f x = absurd cc
       free_tiles (comment v d) f x =
-          let n = tiles_hold_from_end_of_pattern tail rest es (q.end + 1) ends (suffix_next q.rest) k in
+          let n = tiles_hold_from_end_of_pattern tail rest es (q.end + 1) ends (next_of_suffix q.rest) k in
           record {
             tiles = entry (record { start = i; end = q.end }) (comment v d) ∷ n.tiles;
             tiled =
-                next (no_block edition t i (c ∷ cs) (begins c cs is') l) (entry_begins_inside_text i c cs l)
+                next (blank_block_is_empty_at_entry_start edition t i (c ∷ cs) (begins c cs is') l)
+                (entry_begins_inside_text i c cs l)
                 (reads (comment_at_hash_reads_as_entry i c cs (comment v d) q.end is l x))
                 (tiles_hold_from_lf_before q.end tail n.tiles q.rest n.tiled);
             no_faults = n.no_faults;
@@ -269,15 +278,15 @@ module _ (edition : Edition) (t : List ℕ) where
       Reads t (entry_at edition t) (entry_map (bytes_at t)) i e rest
   message_at_letter_reads_as_entry i b bs e rest is l r =
       including_construct_reads_alike (λ o x.
-      chosen (subst (λ b. entry_of edition t (family edition t) b i o) (sym (suffix_first l))
-      (second (differ is_letter b 35 is refl) (second (differ is_letter b 45 is refl) x)))) r
+      chosen (subst (λ b. entry_of edition t (family edition t) b i o) (sym (first_of_suffix l))
+      (second (parted_by_test is_letter b 35 is refl) (second (parted_by_test is_letter b 45 is refl) x)))) r
 
   pub term_at_hyphen_reads_as_entry : (i : ℕ) (bs : List ℕ) (e : EntryTree Text) (rest : List ℕ) →
       SuffixAt t i (45 ∷ bs) → Reads t (term_entry edition t) (entry_map (bytes_at t)) i e rest →
       Reads t (entry_at edition t) (entry_map (bytes_at t)) i e rest
   term_at_hyphen_reads_as_entry i bs e rest l r =
       including_construct_reads_alike (λ o x.
-      chosen (subst (λ b. entry_of edition t (family edition t) b i o) (sym (suffix_first l))
+      chosen (subst (λ b. entry_of edition t (family edition t) b i o) (sym (first_of_suffix l))
       (second refl (first_of refl x)))) r
 
   -- The text from here on is tiled into these entries, after blank lines.
@@ -287,10 +296,11 @@ module _ (edition : Edition) (t : List ℕ) where
     pub starts : EntryStart rest
     pub tiles : (j : ℕ) → SuffixAt t j rest → Tiles edition t j es
 
-  begins_there : (es : BodyTree Text) (bs : List ℕ) → EntryStart bs →
+  body_reads_back_where_entries_begin : (es : BodyTree Text) (bs : List ℕ) → EntryStart bs →
       ((j : ℕ) → SuffixAt t j bs → Tiles edition t j es) →
       BodyReadsBack es bs
-  begins_there es bs s k = record { rest = bs; ends = stop (ends_at_entry bs s); starts = s; tiles = k }
+  body_reads_back_where_entries_begin es bs s k =
+      record { rest = bs; ends = stop (ends_at_entry bs s); starts = s; tiles = k }
 
   -- the entry alone, or with its comment
   entry_with_own_comment_reads_back : (content : Option (List Text)) (e : EntryTree Text) (es : BodyTree Text) (b : ℕ)
@@ -301,16 +311,17 @@ module _ (edition : Edition) (t : List ℕ) where
       ((j : ℕ) → SuffixAt t j rest → Tiles edition t j es) →
       BodyReadsBack (worn content e ∷ es) (own_comment_bytes content (b ∷ bs))
   entry_with_own_comment_reads_back None e es b bs rest o h is n r k =
-      begins_there (e ∷ es) (b ∷ bs) (begins b bs is) (λ j l. entry_alone_is_tiled e es j b bs rest h is l (r j l) k)
+      body_reads_back_where_entries_begin (e ∷ es) (b ∷ bs) (begins b bs is)
+      (λ j l. entry_alone_is_tiled e es j b bs rest h is l (r j l) k)
   entry_with_own_comment_reads_back (Some []) e es b bs rest o h is n r k = absurd cc
   entry_with_own_comment_reads_back (Some (x ∷ xs)) e es b bs rest o h is n r k =
-      begins_there (with_comment (x ∷ xs) e ∷ es) (comment_bytes (35 ∷ []) (x ∷ xs) (b ∷ bs))
+      body_reads_back_where_entries_begin (with_comment (x ∷ xs) e ∷ es) (comment_bytes (35 ∷ []) (x ∷ xs) (b ∷ bs))
       (begins 35 (after_hashes (is_nonblank_line x) x (comment_bytes (35 ∷ []) xs (b ∷ bs))) refl)
       (λ j l. entry_with_comment_is_tiled (x ∷ xs) e es j 35 (after_hashes (is_nonblank_line x) x
       (comment_bytes (35 ∷ []) xs (b ∷ bs))) b bs
       rest h refl l is
-      (comment_reads_back t regular (x ∷ xs) j (b ∷ bs) (right_true (are_lines (x ∷ xs)) _ o)
-      (left_true (are_lines (x ∷ xs)) _ o) n l) r k)
+      (comment_reads_back t regular (x ∷ xs) j (b ∷ bs) (and_gives_right (are_lines (x ∷ xs)) _ o)
+      (and_gives_left (are_lines (x ∷ xs)) _ o) n l) r k)
 
   pub message_wears_its_comment : (m : MessageTree Text) (c : Option (List Text)) → m.comment ≡ c →
       worn c (message (record { id = m.id; value = m.value; attributes = m.attributes; comment = None })) ≡ message m
@@ -337,12 +348,12 @@ module _ (edition : Edition) (t : List ℕ) where
       (own_comment_bytes content (message_bytes id value more tail))
   body_with_message_reads_back [] value more content es tail f o is h a k = absurd cc
   body_with_message_reads_back (b ∷ bs) value more content es tail f o is h a k =
-      let letter = left_true (is_letter b) (list_all is_name_byte bs) is in
+      let letter = and_gives_left (is_letter b) (list_all is_name_byte bs) is in
       let after = bs ++ (32 ∷ 61 ∷ value_bytes value (lf ∷ more_attributes more tail)) in
       entry_with_own_comment_reads_back content
       (message (record { id = b ∷ bs; value = value; attributes = more; comment = None }))
       es b after
-      k.rest o refl (letter_is_entry_byte b letter) (differ is_letter b 35 letter refl)
+      k.rest o refl (letter_is_entry_byte b letter) (parted_by_test is_letter b 35 letter refl)
       (λ j l. message_at_letter_reads_as_entry j b after
       (message (record { id = b ∷ bs; value = value; attributes = more; comment = None })) k.rest letter l
       (message_reads_back edition t (b ∷ bs) value more j tail k.rest is f h a k.ends k.starts l)) k.tiles
@@ -369,11 +380,13 @@ module _ (edition : Edition) (t : List ℕ) where
       (canonical_rules edition).comment content ≡ true → BodyReadsBack es tail →
       BodyReadsBack (comment level content ∷ es) (comment_bytes (hashes_of level) content (lf ∷ tail))
   free_comment_of_hash_reads_back level content es tail c cs e is o k =
-      begins_there (comment level content ∷ es) (comment_bytes (hashes_of level) content (lf ∷ tail))
+      body_reads_back_where_entries_begin (comment level content ∷ es)
+      (comment_bytes (hashes_of level) content (lf ∷ tail))
       (subst EntryStart (sym e) (begins c cs (hash_is_entry_byte c is)))
-      (λ j l. free_comment_is_tiled level content es j c cs tail k.rest is (hash_is_entry_byte c is) (suffix_as e l)
-      (comment_reads_back t level content j (lf ∷ tail) (right_true (are_lines content) _ o)
-      (left_true (are_lines content) _ o) refl l) k.ends k.tiles)
+      (λ j l. free_comment_is_tiled level content es j c cs tail k.rest is (hash_is_entry_byte c is)
+      (suffix_by_equality e l)
+      (comment_reads_back t level content j (lf ∷ tail) (and_gives_right (are_lines content) _ o)
+      (and_gives_left (are_lines content) _ o) refl l) k.ends k.tiles)
 
   body_with_free_comment_reads_back : (level : Level) (content : List Text) (es : BodyTree Text) (tail : Text) →
       (canonical_rules edition).comment content ≡ true → BodyReadsBack es tail →
@@ -406,40 +419,43 @@ module _ (edition : Edition) (t : List ℕ) where
         tiles = λ j l. end_of_text_has_no_tiles edition t j l;
       }
   body_reads_back (message m ∷ es) tail' h (a_message n fs tail w) =
-      let x = left_true (entry_obeys (canonical_rules edition) (message m)) _ h in
-      let y = right_true (has_field m.value m.attributes) _ x in
-      let z = right_true (option_obeys (canonical_rules edition).comment m.comment) _ y in
-      let q = right_true (is_name m.id) _ z in
+      let x = and_gives_left (entry_obeys (canonical_rules edition) (message m)) _ h in
+      let y = and_gives_right (has_field m.value m.attributes) _ x in
+      let z = and_gives_right (option_obeys (canonical_rules edition).comment m.comment) _ y in
+      let q = and_gives_right (is_name m.id) _ z in
       subst (λ e. BodyReadsBack (e ∷ es) (own_comment_bytes m.comment (message_bytes m.id m.value m.attributes tail)))
       (message_wears_its_comment m m.comment refl)
       (body_with_message_reads_back m.id m.value m.attributes m.comment es tail
-      (left_true (has_field m.value m.attributes) _ x)
-      (left_true (option_obeys (canonical_rules edition).comment m.comment) _ y) (left_true (is_name m.id) _ z)
-      (left_true (option_obeys (pattern_obeys (canonical_rules edition)) m.value) _ q)
-      (right_true (option_obeys (pattern_obeys (canonical_rules edition)) m.value) _ q)
-      (body_reads_back es tail (right_true (entry_obeys (canonical_rules edition) (message m)) _ h) w))
+      (and_gives_left (has_field m.value m.attributes) _ x)
+      (and_gives_left (option_obeys (canonical_rules edition).comment m.comment) _ y)
+      (and_gives_left (is_name m.id) _ z)
+      (and_gives_left (option_obeys (pattern_obeys (canonical_rules edition)) m.value) _ q)
+      (and_gives_right (option_obeys (pattern_obeys (canonical_rules edition)) m.value) _ q)
+      (body_reads_back es tail (and_gives_right (entry_obeys (canonical_rules edition) (message m)) _ h) w))
   body_reads_back (term m ∷ es) tail' h (a_term n fs tail w) =
-      let y = left_true (entry_obeys (canonical_rules edition) (term m)) _ h in
-      let z = right_true (option_obeys (canonical_rules edition).comment m.comment) _ y in
-      let q = right_true (is_name m.id) _ z in
+      let y = and_gives_left (entry_obeys (canonical_rules edition) (term m)) _ h in
+      let z = and_gives_right (option_obeys (canonical_rules edition).comment m.comment) _ y in
+      let q = and_gives_right (is_name m.id) _ z in
       subst (λ e. BodyReadsBack (e ∷ es) (own_comment_bytes m.comment (term_bytes m.id m.value m.attributes tail)))
       (term_wears_its_comment m m.comment refl)
       (body_with_term_reads_back m.id m.value m.attributes m.comment es tail
-      (left_true (option_obeys (canonical_rules edition).comment m.comment) _ y) (left_true (is_name m.id) _ z)
-      (left_true (pattern_obeys (canonical_rules edition) m.value) _ q)
-      (right_true (pattern_obeys (canonical_rules edition) m.value) _ q)
-      (body_reads_back es tail (right_true (entry_obeys (canonical_rules edition) (term m)) _ h) w))
+      (and_gives_left (option_obeys (canonical_rules edition).comment m.comment) _ y)
+      (and_gives_left (is_name m.id) _ z)
+      (and_gives_left (pattern_obeys (canonical_rules edition) m.value) _ q)
+      (and_gives_right (pattern_obeys (canonical_rules edition) m.value) _ q)
+      (body_reads_back es tail (and_gives_right (entry_obeys (canonical_rules edition) (term m)) _ h) w))
   body_reads_back (comment level content ∷ es) tail' h (a_comment gap l c fs tail w) =
-      let x = left_true (entry_obeys (canonical_rules edition) (comment level content)) _ h in
+      let x = and_gives_left (entry_obeys (canonical_rules edition) (comment level content)) _ h in
       gap_reads_back gap (comment level content ∷ es) (comment_bytes (hashes_of level) content (lf ∷ tail))
       (body_with_free_comment_reads_back level content es tail x
-      (body_reads_back es tail (right_true (entry_obeys (canonical_rules edition) (comment level content)) _ h) w))
+      (body_reads_back es tail (and_gives_right (entry_obeys (canonical_rules edition) (comment level content)) _ h) w))
   body_reads_back (junk x ∷ es) tail' h w = elim w [ ]
 
 -- A text that a canonical body is written as reads as that body.
-pub reads_back : (edition : Edition) (es : BodyTree Text) (t : Text) → is_canonical edition es ≡ true → IsWritten es t →
+pub canonical_body_reads_back : (edition : Edition) (es : BodyTree Text) (t : Text) → is_canonical edition es ≡ true →
+    IsWritten es t →
     ReadsAs edition t es
-reads_back edition es t h w =
+canonical_body_reads_back edition es t h w =
     let k = body_reads_back edition t es t h w in
     let n = tiles_hold_from_end_of_pattern edition t t k.rest es 0 k.ends (whole_text_is_suffix t) k.tiles in
     record { tiles = n.tiles; tiling = n.tiled; no_faults = n.no_faults; same = n.same }

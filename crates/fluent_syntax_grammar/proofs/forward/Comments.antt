@@ -16,36 +16,38 @@ use Rattle.fluent_syntax_grammar.specs.Comments.{other_level, one_more, comment_
 use Rattle.fluent_syntax_grammar.specs.Written.{Text, has_lf, last_of, is_last, is_nonblank_line, hashes_of}
 use Rattle.fluent_syntax_grammar.specs.Readable.{are_lines}
 use Rattle.fluent_syntax_grammar.specs.Canonical.{is_plain_line, is_plain_comment}
-use Rattle.fluent_syntax_grammar.proofs.Facts.{left_true, right_true, one_and_one_on_is_two_on}
+use Rattle.fluent_syntax_grammar.proofs.Facts.{and_gives_left, and_gives_right, one_and_one_on_is_two_on}
 use Rattle.fluent_syntax_grammar.proofs.Stretches.{run_ends_here, run_goes_on}
-use Rattle.fluent_syntax_grammar.proofs.SuffixAt.{SuffixAt, first, suffix_first, suffix_next, suffix_past, suffix_has}
-use Rattle.fluent_syntax_grammar.proofs.forward.Reading.{Reads, Passes, reads_bind, reads_yields, reads_peek}
-use Rattle.fluent_syntax_grammar.proofs.forward.Reading.{reads_here, passes_then, passes_over, passes_token}
+use Rattle.fluent_syntax_grammar.proofs.SuffixAt.{SuffixAt, first, first_of_suffix, next_of_suffix, rest_past_front}
+use Rattle.fluent_syntax_grammar.proofs.SuffixAt.{test_of_suffix}
+use Rattle.fluent_syntax_grammar.proofs.forward.Reading.{Reads, Passes, reads_bind, yields_reads_its_view, reads_peek}
+use Rattle.fluent_syntax_grammar.proofs.forward.Reading.{here_reads_as_part_at_place, passes_then}
+use Rattle.fluent_syntax_grammar.proofs.forward.Reading.{skip_passes_over_relation, token_passes_its_byte}
 use Rattle.fluent_syntax_grammar.proofs.forward.Reading.{span_reads_its_bytes}
 use Rattle.fluent_syntax_grammar.proofs.marks.WrittenEntries.{doubled, after_hashes, comment_bytes}
-use Rattle.fluent_syntax_grammar.proofs.Tests.{neither_left, neither_right, not_true_is_false}
+use Rattle.fluent_syntax_grammar.proofs.Tests.{false_or_left, false_or_right, not_true_is_false}
 
 -- ---- the end of a line
 
 doubled_ends_line : (t : List ℕ) (b : Bool) (i : ℕ) (tail : List ℕ) → SuffixAt t i (doubled b tail) →
     is_line_place t i ≡ false
-doubled_ends_line t false i tail l = rw (suffix_first l) refl
-doubled_ends_line t true i tail l = rw (suffix_first l, suffix_first (suffix_next l)) refl
+doubled_ends_line t false i tail l = rw (first_of_suffix l) refl
+doubled_ends_line t true i tail l = rw (first_of_suffix l, first_of_suffix (next_of_suffix l)) refl
 
 optional_eol_passes_doubled : (t : List ℕ) (b : Bool) (i : ℕ) (tail : List ℕ) → SuffixAt t i (doubled b tail) →
     Passes t (optional_eol t) i tail
 optional_eol_passes_doubled t false i tail l =
-    reads_peek (Some (i + 1)) (rw (suffix_first l) refl)
-    (passes_over {j = i + 1} (record { there = refl }) (suffix_next l))
+    reads_peek (Some (i + 1)) (rw (first_of_suffix l) refl)
+    (skip_passes_over_relation {j = i + 1} (record { there = refl }) (next_of_suffix l))
 optional_eol_passes_doubled t true i tail l =
-    reads_peek (Some (i + 2)) (rw (suffix_first l, suffix_first (suffix_next l)) refl)
-    (passes_over {j = i + 2} (record { there = refl })
-    (subst (λ n. SuffixAt t n tail) (one_and_one_on_is_two_on i) (suffix_next (suffix_next l))))
+    reads_peek (Some (i + 2)) (rw (first_of_suffix l, first_of_suffix (next_of_suffix l)) refl)
+    (skip_passes_over_relation {j = i + 2} (record { there = refl })
+    (subst (λ n. SuffixAt t n tail) (one_and_one_on_is_two_on i) (next_of_suffix (next_of_suffix l))))
 
 -- no line end begins at the byte
 byte_is_line_place : (t : List ℕ) (i x : ℕ) (bs : List ℕ) → (x == lf) ≡ false →
     ((x == cr) && holds (λ b. b == lf) (first bs)) ≡ false → SuffixAt t i (x ∷ bs) → is_line_place t i ≡ true
-byte_is_line_place t i x bs e f l = rw (suffix_first l, suffix_first (suffix_next l), e, f) refl
+byte_is_line_place t i x bs e f l = rw (first_of_suffix l, first_of_suffix (next_of_suffix l), e, f) refl
 
 and_with_false_is_false : (b : Bool) (c : Bool) → c ≡ false → (b && c) ≡ false
 and_with_false_is_false true c e = e
@@ -63,19 +65,19 @@ suffix_line_is_longest_run t [] tail i e l = let s : i ≡ i + 0 = omega arith i
     subst (λ n. LongestRun (is_line_place t) i n) s (run_ends_here (is_line_place t) i
     (doubled_ends_line t false i tail l))
 suffix_line_is_longest_run t (x ∷ []) tail i e l =
-    let n = suffix_next l in
+    let n = next_of_suffix l in
     run_goes_on (is_line_place t) i (i + 1)
-    (byte_is_line_place t i x (doubled (x == cr) tail) (neither_left (x == lf) false e)
+    (byte_is_line_place t i x (doubled (x == cr) tail) (false_or_left (x == lf) false e)
     (doubled_lf_begins_with_no_lf (x == cr) tail) l)
     (run_ends_here (is_line_place t) (i + 1) (doubled_ends_line t (x == cr) (i + 1) tail n))
 suffix_line_is_longest_run t (x ∷ y ∷ xs) tail i e l =
     let s : (i + 1) + length (y ∷ xs) ≡ i + length (x ∷ y ∷ xs) = omega arith in
-    let more = neither_right (x == lf) (has_lf (y ∷ xs)) e in
+    let more = false_or_right (x == lf) (has_lf (y ∷ xs)) e in
     subst (λ n. LongestRun (is_line_place t) i n) s
     (run_goes_on (is_line_place t) i
-    _ (byte_is_line_place t i x _ (neither_left (x == lf) (has_lf (y ∷ xs)) e)
-    (and_with_false_is_false (x == cr) (y == lf) (neither_left (y == lf) (has_lf xs) more)) l)
-    (suffix_line_is_longest_run t (y ∷ xs) tail (i + 1) more (suffix_next l)))
+    _ (byte_is_line_place t i x _ (false_or_left (x == lf) (has_lf (y ∷ xs)) e)
+    (and_with_false_is_false (x == cr) (y == lf) (false_or_left (y == lf) (has_lf xs) more)) l)
+    (suffix_line_is_longest_run t (y ∷ xs) tail (i + 1) more (next_of_suffix l)))
 
 -- ---- hashes
 
@@ -87,26 +89,26 @@ hashes_of_level_are_counted : (t : List ℕ) (level : Level) (i : ℕ) (more : L
     holds (λ b. b == 35) (first more) ≡ false →
     SuffixAt t i (hashes_of level ++ more) → hashes t i ≡ hashes_in_level level
 hashes_of_level_are_counted t regular i more e l =
-    rw (suffix_first l, suffix_has (λ b. b == 35) (suffix_next l), e) refl
+    rw (first_of_suffix l, test_of_suffix (λ b. b == 35) (next_of_suffix l), e) refl
 hashes_of_level_are_counted t group i more e l =
     let two : SuffixAt t (i + 2) more =
-    subst (λ n. SuffixAt t n more) (one_and_one_on_is_two_on i) (suffix_next (suffix_next l)) in
-    rw (suffix_first l, suffix_first (suffix_next l), suffix_has (λ b. b == 35) two, e) refl
+    subst (λ n. SuffixAt t n more) (one_and_one_on_is_two_on i) (next_of_suffix (next_of_suffix l)) in
+    rw (first_of_suffix l, first_of_suffix (next_of_suffix l), test_of_suffix (λ b. b == 35) two, e) refl
 hashes_of_level_are_counted t resource i more e l =
     let two : SuffixAt t (i + 2) (35 ∷ more) =
-    subst (λ n. SuffixAt t n (35 ∷ more)) (one_and_one_on_is_two_on i) (suffix_next (suffix_next l)) in
-    rw (suffix_first l, suffix_first (suffix_next l), suffix_first two) refl
+    subst (λ n. SuffixAt t n (35 ∷ more)) (one_and_one_on_is_two_on i) (next_of_suffix (next_of_suffix l)) in
+    rw (first_of_suffix l, first_of_suffix (next_of_suffix l), first_of_suffix two) refl
 
 zero_is_not_suc : (n : ℕ) → 0 ≡ suc n → ⊥
 zero_is_not_suc n e = cc
 
 no_hash_no_level : (t : List ℕ) (level : Level) (i : ℕ) (more : List ℕ) → holds (λ b. b == 35) (first more) ≡ false →
     SuffixAt t i more → hashes t i ≢ hashes_in_level level
-no_hash_no_level t regular i more e l f = let none : hashes t i ≡ 0 = rw (suffix_has (λ b. b == 35) l, e) refl in
+no_hash_no_level t regular i more e l f = let none : hashes t i ≡ 0 = rw (test_of_suffix (λ b. b == 35) l, e) refl in
     zero_is_not_suc 0 (sym none ∙ f)
-no_hash_no_level t group i more e l f = let none : hashes t i ≡ 0 = rw (suffix_has (λ b. b == 35) l, e) refl in
+no_hash_no_level t group i more e l f = let none : hashes t i ≡ 0 = rw (test_of_suffix (λ b. b == 35) l, e) refl in
     zero_is_not_suc 1 (sym none ∙ f)
-no_hash_no_level t resource i more e l f = let none : hashes t i ≡ 0 = rw (suffix_has (λ b. b == 35) l, e) refl in
+no_hash_no_level t resource i more e l f = let none : hashes t i ≡ 0 = rw (test_of_suffix (λ b. b == 35) l, e) refl in
     zero_is_not_suc 2 (sym none ∙ f)
 
 level_of_count_is_same : (level : Level) → level_of (hashes_in_level level) ≡ level
@@ -139,28 +141,32 @@ module _ (t : List ℕ) where
       has_lf line ≡ false → SuffixAt t i (after_hashes shown line tail) →
       Reads t (peek (slice_get t) (comment_rest t)) (map (bytes_at t)) i (line ∷ []) tail
   comment_rest_reads_back [] false i tail blank_line e l =
-      reads_peek (Some lf) (suffix_first l)
-      (reads_bind (reads_peek true (rw (suffix_first l) refl) (reads_here (span_reads_its_bytes [] (lf ∷ tail) l l)))
+      reads_peek (Some lf) (first_of_suffix l)
+      (reads_bind
+      (reads_peek true (rw (first_of_suffix l) refl)
+      (here_reads_as_part_at_place (span_reads_its_bytes [] (lf ∷ tail) l l)))
       (λ x j f m. passes_then (optional_eol_passes_doubled t false j tail m)
-      (λ k n. reads_yields (map_of_one_is_one (bytes_at t) x [] f) n)))
+      (λ k n. yields_reads_its_view (map_of_one_is_one (bytes_at t) x [] f) n)))
   comment_rest_reads_back (b ∷ line) false i tail x e l = elim x [ ]
   comment_rest_reads_back line true i tail shown_line e l =
       let end = doubled (is_last cr (last_of None line)) tail in
-      reads_peek (Some space) (suffix_first l)
-      (reads_bind (reads_peek false (rw (suffix_first l) refl)
-      (passes_then (passes_token 32 refl l)
-      (λ j m. reads_here
-      (passes_then (passes_over (suffix_line_is_longest_run t line tail j e m) (suffix_past line m))
+      reads_peek (Some space) (first_of_suffix l)
+      (reads_bind (reads_peek false (rw (first_of_suffix l) refl)
+      (passes_then (token_passes_its_byte 32 refl l)
+      (λ j m. here_reads_as_part_at_place
+      (passes_then (skip_passes_over_relation (suffix_line_is_longest_run t line tail j e m) (rest_past_front line m))
       (λ k n. span_reads_its_bytes line end m n)))))
       (λ x j f m. passes_then (optional_eol_passes_doubled t (is_last cr (last_of None line)) j tail m)
-      (λ k n. reads_yields (map_of_one_is_one (bytes_at t) x line f) n)))
+      (λ k n. yields_reads_its_view (map_of_one_is_one (bytes_at t) x line f) n)))
 
   comment_line_reads_back : (level : Level) (line : Text) (i : ℕ) (tail : List ℕ) → is_plain_line line ≡ true →
       has_lf line ≡ false →
       SuffixAt t i (hashes_of level ++ after_hashes (is_nonblank_line line) line tail) →
       Reads t (comment_line t (hashes_in_level level)) (map (bytes_at t)) i (line ∷ []) tail
   comment_line_reads_back level line i tail p e l =
-      passes_then (passes_over {j = i + hashes_in_level level} (record { by = refl }) (suffix_past (hashes_of level) l))
+      passes_then
+      (skip_passes_over_relation {j = i + hashes_in_level level} (record { by = refl })
+      (rest_past_front (hashes_of level) l))
       (λ j m. comment_rest_reads_back line (is_nonblank_line line) j tail
       (line_has_form line (is_nonblank_line line) p) e m)
 
@@ -183,11 +189,11 @@ module _ (t : List ℕ) where
   comment_lines_read_back level (line ∷ lines) i tail p a e l =
       let one =
       comment_line_reads_back level line i (comment_bytes (hashes_of level) lines tail)
-      (left_true (is_plain_line line) _ p)
-      (not_true_is_false (has_lf line) (left_true (not (has_lf line)) _ a)) l in
+      (and_gives_left (is_plain_line line) _ p)
+      (not_true_is_false (has_lf line) (and_gives_left (not (has_lf line)) _ a)) l in
       let others =
-      comment_lines_read_back level lines one.end tail (right_true (is_plain_line line) _ p)
-      (right_true (not (has_lf line)) _ a)
+      comment_lines_read_back level lines one.end tail (and_gives_right (is_plain_line line) _ p)
+      (and_gives_right (not (has_lf line)) _ a)
       e one.rest in
       record {
         value = one.value ++ others.value;
@@ -221,8 +227,9 @@ module _ (t : List ℕ) where
       (after_hashes (is_nonblank_line line) line (comment_bytes (hashes_of level) lines tail))
       (no_hash_is_after_hashes line (is_nonblank_line line) (comment_bytes (hashes_of level) lines tail)) l)
       (reads_bind (comment_line_reads_back level line i (comment_bytes (hashes_of level) lines tail)
-      (left_true (is_plain_line line) _ p) (not_true_is_false (has_lf line) (left_true (not (has_lf line)) _ a)) l)
+      (and_gives_left (is_plain_line line) _ p)
+      (not_true_is_false (has_lf line) (and_gives_left (not (has_lf line)) _ a)) l)
       (λ x j f m.
-      reads_bind (comment_lines_read_back level lines j tail (right_true (is_plain_line line) _ p)
-      (right_true (not (has_lf line)) _ a) e m)
-      (λ y k g n. reads_yields (spelled_comment_lines_append level x y line lines f g) n)))
+      reads_bind (comment_lines_read_back level lines j tail (and_gives_right (is_plain_line line) _ p)
+      (and_gives_right (not (has_lf line)) _ a) e m)
+      (λ y k g n. yields_reads_its_view (spelled_comment_lines_append level x y line lines f g) n)))

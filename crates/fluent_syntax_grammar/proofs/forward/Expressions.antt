@@ -17,17 +17,19 @@ use Rattle.fluent_syntax_grammar.specs.Expressions.{has_arrow, selector_fault, i
 use Rattle.fluent_syntax_grammar.specs.Rules.{inline_obeys}
 use Rattle.fluent_syntax_grammar.specs.Canonical.{canonical_rules}
 use Rattle.fluent_syntax_grammar.specs.Grammar.{inline_expression, expression, placeable}
-use Rattle.fluent_syntax_grammar.proofs.Facts.{left_true, right_true, equal}
-use Rattle.fluent_syntax_grammar.proofs.Tests.{both_true}
+use Rattle.fluent_syntax_grammar.proofs.Facts.{and_gives_left, and_gives_right, same_by_test}
+use Rattle.fluent_syntax_grammar.proofs.Tests.{true_and_true}
 use Rattle.fluent_syntax_grammar.proofs.Nesting.{expression_of_family_is_in_family}
-use Rattle.fluent_syntax_grammar.proofs.SuffixAt.{SuffixAt, suffix_first, is_space_or_lf}
-use Rattle.fluent_syntax_grammar.proofs.forward.Reading.{Reads, Passes, reads_bind, reads_yields, passes_then}
-use Rattle.fluent_syntax_grammar.proofs.forward.Reading.{reads_peek, look_reads_what_follows, reads_second}
+use Rattle.fluent_syntax_grammar.proofs.SuffixAt.{SuffixAt, first_of_suffix, is_space_or_lf}
+use Rattle.fluent_syntax_grammar.proofs.forward.Reading.{Reads, Passes, reads_bind, yields_reads_its_view, passes_then}
+use Rattle.fluent_syntax_grammar.proofs.forward.Reading.{reads_peek, look_reads_what_follows, second_branch_reads}
 use Rattle.fluent_syntax_grammar.proofs.forward.Reading.{including_construct_reads_alike}
-use Rattle.fluent_syntax_grammar.proofs.forward.Reading.{passes_token, passes_inline_blank}
+use Rattle.fluent_syntax_grammar.proofs.forward.Reading.{token_passes_its_byte, passes_inline_blank}
 use Rattle.fluent_syntax_grammar.proofs.marks.WrittenBytes.{expression_bytes, element_bytes, closing_indent}
-use Rattle.fluent_syntax_grammar.proofs.forward.Inline.{Follows, bytes_past, passes_blank, passes_blanks, starts_with}
-use Rattle.fluent_syntax_grammar.proofs.forward.Arguments.{Begins, InlineReadsBack, inline_begins, begins_other}
+use Rattle.fluent_syntax_grammar.proofs.forward.Inline.{Follows, bytes_past, passes_blank, passes_blanks}
+use Rattle.fluent_syntax_grammar.proofs.forward.Inline.{inline_start_is_that_of_bytes}
+use Rattle.fluent_syntax_grammar.proofs.forward.Arguments.{Begins, InlineReadsBack, canonical_inline_begins_inline}
+use Rattle.fluent_syntax_grammar.proofs.forward.Arguments.{beginning_of_inline_is_no_other_byte}
 
 -- what a tree of ranges is, its tree of texts is
 pub map_keeps_fault : {X Y : Type 0} (f : X → Y) (e : InlineTree X) → selector_fault (inline_map f e) ≡ selector_fault e
@@ -55,8 +57,8 @@ inline_map_keeps_term_attribute f (inline_placeable e) = refl
 pub spaces_are_blank : (bs : List ℕ) → list_all is_space bs ≡ true → list_all is_space_or_lf bs ≡ true
 spaces_are_blank [] e = refl
 spaces_are_blank (b ∷ bs) e =
-    both_true (ap is_space_or_lf (equal b 32 (left_true (is_space b) (list_all is_space bs) e)))
-    (spaces_are_blank bs (right_true (is_space b) (list_all is_space bs) e))
+    true_and_true (ap is_space_or_lf (same_by_test b 32 (and_gives_left (is_space b) (list_all is_space bs) e)))
+    (spaces_are_blank bs (and_gives_right (is_space b) (list_all is_space bs) e))
 
 -- before the brace that closes a placeable
 closing_brace_follows_spaces : (gap more : List ℕ) → list_all is_space gap ≡ true → Follows gap (125 ∷ more)
@@ -73,7 +75,7 @@ closing_brace_follows_spaces [] more e =
       no_attribute = refl;
     }
 closing_brace_follows_spaces (b ∷ bs) more e =
-    let s : b ≡ 32 = equal b 32 (left_true (is_space b) (list_all is_space bs) e) in
+    let s : b ≡ 32 = same_by_test b 32 (and_gives_left (is_space b) (list_all is_space bs) e) in
     record {
       spaces = spaces_are_blank (b ∷ bs) e;
       no_name = ap is_name_byte s;
@@ -107,7 +109,7 @@ module _ (edition : Edition) (t : List ℕ) where
   gap_after_inline_is_passed e gap more i f l = optional_gap_is_passed (passes_blank e) gap more i f l
 
   no_arrow_is_at_closing_brace : (i : ℕ) (more : List ℕ) → SuffixAt t i (125 ∷ more) → has_arrow t i ≡ false
-  no_arrow_is_at_closing_brace i more l = rw (suffix_first l) refl
+  no_arrow_is_at_closing_brace i more l = rw (first_of_suffix l) refl
 
   -- an inline expression that was read, before the brace
   inline_before_brace_reads_as_expression : (e : InlineTree Text) (gap more : List ℕ) (i : ℕ) →
@@ -119,15 +121,15 @@ module _ (edition : Edition) (t : List ℕ) where
       (λ v j f m.
       passes_then (gap_after_inline_is_passed e gap (125 ∷ more) j (closing_brace_follows_spaces gap more g) m) (λ k n.
       look_reads_what_follows false (no_arrow_is_at_closing_brace k more n)
-      (reads_second refl
-      (reads_second (sym (inline_map_keeps_term_attribute (bytes_at t) v) ∙ ap is_term_attribute f ∙ a)
-      (reads_yields (ap inline f) n)))))
+      (second_branch_reads refl
+      (second_branch_reads (sym (inline_map_keeps_term_attribute (bytes_at t) v) ∙ ap is_term_attribute f ∙ a)
+      (yields_reads_its_view (ap inline f) n)))))
 
   pub inline_expression_reads_back : (level : ℕ) (e : InlineTree Text) → is_term_attribute e ≡ false →
       InlineReadsBack edition t level e →
       ExpressionReadsBack edition t level (inline e)
   inline_expression_reads_back level e a h = record {
-    begins = λ tail. inline_begins edition level e tail h.obeys;
+    begins = λ tail. canonical_inline_begins_inline edition level e tail h.obeys;
     back = λ i gap more g l. inline_before_brace_reads_as_expression e gap more i a g
         (h.back i gap (125 ∷ more) (closing_brace_follows_spaces gap more g) l);
   }
@@ -141,14 +143,15 @@ module _ (edition : Edition) (t : List ℕ) where
       Reads t (placeable edition t) (expression_map (bytes_at t)) i e more
   placeable_reads_back level e before gap more i a g h l =
       let b = h.begins (closing_indent level e ++ (gap ++ (125 ∷ more))) in
-      passes_then (passes_token 123 refl l)
+      passes_then (token_passes_its_byte 123 refl l)
       (λ j m. passes_then
-      (passes_blanks before _ (spaces_are_blank before a) (begins_other 32 b refl) (begins_other lf b refl)
-      (begins_other cr b refl) m) (λ k n.
+      (passes_blanks before _ (spaces_are_blank before a) (beginning_of_inline_is_no_other_byte 32 b refl)
+      (beginning_of_inline_is_no_other_byte lf b refl)
+      (beginning_of_inline_is_no_other_byte cr b refl) m) (λ k n.
       reads_bind (including_construct_reads_alike (λ o x. expression_of_family_is_in_family edition t k o x)
       (h.back k gap more g n))
       (λ v p f o. passes_then (passes_inline_blank [] (125 ∷ more) refl refl o)
-      (λ q r. passes_then (passes_token 125 refl r) (λ y z. reads_yields f z)))))
+      (λ q r. passes_then (token_passes_its_byte 125 refl r) (λ y z. yields_reads_its_view f z)))))
 
   -- the same as an inline expression
   expression_in_braces_reads_as_placeable : (level : ℕ) (e : ExpressionTree Text) (before gap more : List ℕ) (i : ℕ) →
@@ -156,9 +159,9 @@ module _ (edition : Edition) (t : List ℕ) where
       SuffixAt t i (123 ∷ (before ++ expression_bytes level e (closing_indent level e ++ (gap ++ (125 ∷ more))))) →
       Reads t (inline_expression edition t) (inline_map (bytes_at t)) i (inline_placeable e) more
   expression_in_braces_reads_as_placeable level e before gap more i a g h l =
-      reads_peek brace (starts_with brace refl l)
+      reads_peek brace (inline_start_is_that_of_bytes brace refl l)
       (reads_bind (placeable_reads_back level e before gap more i a g h l)
-      (λ v j f m. reads_yields (ap inline_placeable f) m))
+      (λ v j f m. yields_reads_its_view (ap inline_placeable f) m))
 
   pub inline_placeable_reads_back : (level : ℕ) (e : ExpressionTree Text) →
       inline_obeys (canonical_rules edition) (inline_placeable e) ≡ true → ExpressionReadsBack edition t level e →
@@ -178,9 +181,10 @@ module _ (edition : Edition) (t : List ℕ) where
       SuffixAt t i (element_bytes level (placeable_element (inline (inline_placeable e))) tail) →
       Reads t (placeable edition t) (expression_map (bytes_at t)) i (inline (inline_placeable e)) tail
   double_placeable_reads_back level e i tail h l =
-      passes_then (passes_token 123 refl l) (λ j m. passes_then (passes_blanks [] _ refl refl refl refl m) (λ k n.
+      passes_then (token_passes_its_byte 123 refl l)
+      (λ j m. passes_then (passes_blanks [] _ refl refl refl refl m) (λ k n.
       reads_bind (including_construct_reads_alike (λ o x. expression_of_family_is_in_family edition t k o x)
       (inline_before_brace_reads_as_expression (inline_placeable e) [] tail k refl refl
       (expression_in_braces_reads_as_placeable level e (32 ∷ []) (32 ∷ []) (125 ∷ tail) k refl refl h n)))
       (λ v p f o. passes_then (passes_inline_blank [] (125 ∷ tail) refl refl o) (λ q r.
-      passes_then (passes_token 125 refl r) (λ y z. reads_yields f z)))))
+      passes_then (token_passes_its_byte 125 refl r) (λ y z. yields_reads_its_view f z)))))

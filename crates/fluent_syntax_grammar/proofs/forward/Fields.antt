@@ -19,16 +19,20 @@ use Rattle.fluent_syntax_grammar.specs.Spellings.{is_name}
 use Rattle.fluent_syntax_grammar.specs.Rules.{option_obeys, pattern_obeys, attribute_obeys}
 use Rattle.fluent_syntax_grammar.specs.Readable.{has_field}
 use Rattle.fluent_syntax_grammar.specs.Canonical.{canonical_rules}
-use Rattle.fluent_syntax_grammar.proofs.Facts.{left_true, right_true, equal_somes_have_equal_items}
-use Rattle.fluent_syntax_grammar.proofs.SuffixAt.{SuffixAt, suffix_next, suffix_past, suffix_has_no_after_eol}
+use Rattle.fluent_syntax_grammar.proofs.Facts.{and_gives_left, and_gives_right, equal_somes_have_equal_items}
+use Rattle.fluent_syntax_grammar.proofs.SuffixAt.{SuffixAt, next_of_suffix, rest_past_front, suffix_has_no_after_eol}
 use Rattle.fluent_syntax_grammar.proofs.SuffixAt.{suffix_byte_run}
-use Rattle.fluent_syntax_grammar.proofs.forward.Reading.{Reads, reads_bind, reads_yields, reads_here, passes_then}
-use Rattle.fluent_syntax_grammar.proofs.forward.Reading.{passes_over, passes_token, passes_inline_blank}
-use Rattle.fluent_syntax_grammar.proofs.forward.Words.{reads_name}
+use Rattle.fluent_syntax_grammar.proofs.forward.Reading.{Reads, reads_bind, yields_reads_its_view}
+use Rattle.fluent_syntax_grammar.proofs.forward.Reading.{here_reads_as_part_at_place, passes_then}
+use Rattle.fluent_syntax_grammar.proofs.forward.Reading.{skip_passes_over_relation, token_passes_its_byte}
+use Rattle.fluent_syntax_grammar.proofs.forward.Reading.{passes_inline_blank}
+use Rattle.fluent_syntax_grammar.proofs.forward.Words.{identifier_reads_back}
 use Rattle.fluent_syntax_grammar.proofs.marks.WrittenBytes.{pattern_bytes}
 use Rattle.fluent_syntax_grammar.proofs.marks.WrittenEntries.{more_attributes, value_bytes, message_bytes, term_bytes}
-use Rattle.fluent_syntax_grammar.proofs.forward.Lines.{Ends, stop, indented, no_spaces, lf_after, lines_stop_at_mark}
-use Rattle.fluent_syntax_grammar.proofs.forward.Entries.{EntryStart, no_block, no_attributes_are_read_at_entry_start}
+use Rattle.fluent_syntax_grammar.proofs.forward.Lines.{Ends, stop, indented, inline_blank_without_space_is_empty}
+use Rattle.fluent_syntax_grammar.proofs.forward.Lines.{line_end_at_lf_is_one_byte, lines_stop_at_mark}
+use Rattle.fluent_syntax_grammar.proofs.forward.Entries.{EntryStart, blank_block_is_empty_at_entry_start}
+use Rattle.fluent_syntax_grammar.proofs.forward.Entries.{no_attributes_are_read_at_entry_start}
 use Rattle.fluent_syntax_grammar.proofs.forward.Trees.{pattern_reads_back}
 
 -- what is left after a pattern before these attributes: where there is none, the blank lines are passed
@@ -53,7 +57,8 @@ module _ (edition : Edition) (t : List ℕ) where
       bytes_at t id ≡ a.id → option_map (pattern_map (bytes_at t)) v ≡ Some a.value → SuffixAt t i bs →
       Reads t (attribute_with id v) (attribute_map (bytes_at t)) i a bs
   attribute_with_reads_back id a None i bs e f l = absurd cc
-  attribute_with_reads_back id a (Some p) i bs e f l = reads_yields (same_attribute (equal_somes_have_equal_items f)) l
+  attribute_with_reads_back id a (Some p) i bs e f l =
+      yields_reads_its_view (same_attribute (equal_somes_have_equal_items f)) l
     where
       same_attribute : pattern_map (bytes_at t) p ≡ a.value →
           attribute_map (bytes_at t) (record { id = id; value = p }) ≡ a
@@ -65,11 +70,13 @@ module _ (edition : Edition) (t : List ℕ) where
       Reads t (attribute edition t) (attribute_map (bytes_at t)) i a rest
   attribute_reads_back a i tail rest h e l =
       passes_then (passes_inline_blank deep (46 ∷ (a.id ++ (32 ∷ 61 ∷ pattern_bytes 1 a.value (lf ∷ tail)))) refl refl
-      l) (λ j m. passes_then (passes_token 46 refl m) (λ k n.
-      reads_bind (reads_name a.id (32 ∷ 61 ∷ pattern_bytes 1 a.value (lf ∷ tail)) (left_true (is_name a.id) _ h) refl n)
+      l) (λ j m. passes_then (token_passes_its_byte 46 refl m) (λ k n.
+      reads_bind
+      (identifier_reads_back a.id (32 ∷ 61 ∷ pattern_bytes 1 a.value (lf ∷ tail))
+      (and_gives_left (is_name a.id) _ h) refl n)
       (λ x y f o. passes_then (passes_inline_blank (32 ∷ []) (61 ∷ pattern_bytes 1 a.value (lf ∷ tail)) refl refl o)
-      (λ z q. passes_then (passes_token 61 refl q) (λ u r.
-      reads_bind ((pattern_reads_back edition t a.value (right_true (is_name a.id) _ h) 1).back u tail rest e r)
+      (λ z q. passes_then (token_passes_its_byte 61 refl q) (λ u r.
+      reads_bind ((pattern_reads_back edition t a.value (and_gives_right (is_name a.id) _ h) 1).back u tail rest e r)
       (λ v w g s. attribute_with_reads_back x a v w rest f g s))))))
 
   -- the attributes after a pattern
@@ -89,9 +96,11 @@ module _ (edition : Edition) (t : List ℕ) where
   attributes_read_back (a ∷ more) i tail rest h e s l =
       let one =
       attribute_reads_back a i (more_attributes more tail) (before more tail rest)
-      (left_true (attribute_obeys (canonical_rules edition) a) _ h) (attributes_end_a_pattern more tail rest e) l in
+      (and_gives_left (attribute_obeys (canonical_rules edition) a) _ h) (attributes_end_a_pattern more tail rest e)
+      l in
       let others =
-      attributes_read_back more one.end tail rest (right_true (attribute_obeys (canonical_rules edition) a) _ h) e s
+      attributes_read_back more one.end tail rest (and_gives_right (attribute_obeys (canonical_rules edition) a) _ h) e
+      s
       one.rest in
       record {
         value = one.value ∷ others.value;
@@ -108,10 +117,11 @@ module _ (edition : Edition) (t : List ℕ) where
   -- there is no blank line
   no_block_is_before_attributes : (more : List (AttributeTree Text)) (i : ℕ) (tail rest : List ℕ) → EntryStart rest →
       SuffixAt t i (before more tail rest) → BlankBlock t i i
-  no_block_is_before_attributes [] i tail rest s l = no_block edition t i rest s l
+  no_block_is_before_attributes [] i tail rest s l = blank_block_is_empty_at_entry_start edition t i rest s l
   no_block_is_before_attributes (a ∷ more) i tail rest s l =
       let bs = 46 ∷ (a.id ++ (32 ∷ 61 ∷ pattern_bytes 1 a.value (lf ∷ more_attributes more tail))) in
-      no_line (suffix_byte_run is_space deep bs refl refl l) (suffix_has_no_after_eol (suffix_past deep l) refl refl)
+      no_line (suffix_byte_run is_space deep bs refl refl l)
+      (suffix_has_no_after_eol (rest_past_front deep l) refl refl)
 
   -- no value, before an attribute
   no_value_is_read_before_attributes : (a : AttributeTree Text) (more : List (AttributeTree Text)) (i : ℕ)
@@ -119,15 +129,15 @@ module _ (edition : Edition) (t : List ℕ) where
       Reads t (grammar.pattern edition t) (option_map (pattern_map (bytes_at t))) i None
       (more_attributes (a ∷ more) tail)
   no_value_is_read_before_attributes a more i tail rest s l =
-      let m = suffix_next l in
+      let m = next_of_suffix l in
       record {
         value = None;
         end = i + 1;
         reads =
-            goes_on (goes_on (passed (no_spaces edition t refl l))
+            goes_on (goes_on (passed (inline_blank_without_space_is_empty edition t refl l))
             (chosen (subst
             (λ o. layout_at t (grammar.family edition t) o i (Read (record { opening = None; lines = [] }) (i + 1)))
-            (sym (lf_after edition t l))
+            (sym (line_end_at_lf_is_one_byte edition t l))
             (goes_on (passed (record { there = refl }))
             (goes_on (passed (no_block_is_before_attributes (a ∷ more) (i + 1) tail rest s m))
             (goes_on (lines_stop_at_mark edition t (i + 1) 46 (32 ∷ 32 ∷ 32 ∷ [])
@@ -160,14 +170,15 @@ module _ (edition : Edition) (t : List ℕ) where
   message_with_reads_back start id None [] x v as' i rest h e f g l = absurd cc
   message_with_reads_back start id None (a ∷ more) x (Some p) as' i rest h e f g l = absurd cc
   message_with_reads_back start id None (a ∷ more) x None [] i rest h e f g l = absurd cc
-  message_with_reads_back start id None (a ∷ more) x None (b ∷ bs) i rest h e f g l = reads_yields (same_message e g) l
+  message_with_reads_back start id None (a ∷ more) x None (b ∷ bs) i rest h e f g l =
+      yields_reads_its_view (same_message e g) l
     where
       same_message : bytes_at t x ≡ id → map (attribute_map (bytes_at t)) (b ∷ bs) ≡ a ∷ more →
           entry_map (bytes_at t) (message (record { id = x; value = None; attributes = b ∷ bs; comment = None }))
           ≡ message (record { id = id; value = None; attributes = a ∷ more; comment = None })
       same_message e g = rw (e, g) refl
   message_with_reads_back start id (Some q) more x None as' i rest h e f g l = absurd cc
-  message_with_reads_back start id (Some q) more x (Some p) as' i rest h e f g l = reads_yields
+  message_with_reads_back start id (Some q) more x (Some p) as' i rest h e f g l = yields_reads_its_view
       (same_message e (equal_somes_have_equal_items f) g) l
     where
       same_message : bytes_at t x ≡ id → pattern_map (bytes_at t) p ≡ q → map (attribute_map (bytes_at t)) as' ≡ more →
@@ -185,12 +196,14 @@ module _ (edition : Edition) (t : List ℕ) where
       Reads t (message_entry edition t) (entry_map (bytes_at t)) i
       (message (record { id = id; value = value; attributes = more; comment = None })) rest
   message_reads_back id value more i tail rest is f h a e s l =
-      reads_here (reads_bind (reads_name id (32 ∷ 61 ∷ value_bytes value (lf ∷ more_attributes more tail)) is refl l)
+      here_reads_as_part_at_place
+      (reads_bind
+      (identifier_reads_back id (32 ∷ 61 ∷ value_bytes value (lf ∷ more_attributes more tail)) is refl l)
       (λ x j g m. passes_then
       (passes_inline_blank (32 ∷ []) (61 ∷ value_bytes value (lf ∷ more_attributes more tail)) refl refl m)
-      (λ k n. passes_then (passes_token 61 refl n) (λ p o.
+      (λ k n. passes_then (token_passes_its_byte 61 refl n) (λ p o.
       reads_bind (value_reads_back value more p tail rest f h e s o)
-      (λ v q c r. passes_then (passes_over (no_block_is_before_attributes more q tail rest s r) r) (λ y z.
+      (λ v q c r. passes_then (skip_passes_over_relation (no_block_is_before_attributes more q tail rest s r) r) (λ y z.
       reads_bind (attributes_read_back more y tail rest a e s z)
       (λ bs w d u. message_with_reads_back i id value more x v bs w rest f g c d u)))))))
 
@@ -203,7 +216,7 @@ module _ (edition : Edition) (t : List ℕ) where
       (term (record { id = id; value = value; attributes = more; comment = None })) rest
   term_with_reads_back start id value more x None as' i rest e f g l = absurd cc
   term_with_reads_back start id value more x (Some p) as' i rest e f g l =
-      reads_yields (same_term e (equal_somes_have_equal_items f) g) l
+      yields_reads_its_view (same_term e (equal_somes_have_equal_items f) g) l
     where
       same_term : bytes_at t x ≡ id → pattern_map (bytes_at t) p ≡ value → map (attribute_map (bytes_at t)) as' ≡ more →
           entry_map (bytes_at t) (term (record { id = x; value = p; attributes = as'; comment = None }))
@@ -219,14 +232,14 @@ module _ (edition : Edition) (t : List ℕ) where
       Reads t (term_entry edition t) (entry_map (bytes_at t)) i
       (term (record { id = id; value = value; attributes = more; comment = None })) rest
   term_reads_back id value more i tail rest is h a e s l =
-      reads_here (passes_then (passes_token 45 refl l)
+      here_reads_as_part_at_place (passes_then (token_passes_its_byte 45 refl l)
       (λ b c. reads_bind
-      (reads_name id (32 ∷ 61 ∷ pattern_bytes 0 value (lf ∷ more_attributes more tail)) is refl c)
+      (identifier_reads_back id (32 ∷ 61 ∷ pattern_bytes 0 value (lf ∷ more_attributes more tail)) is refl c)
       (λ x j g m. passes_then
       (passes_inline_blank (32 ∷ []) (61 ∷ pattern_bytes 0 value (lf ∷ more_attributes more tail)) refl refl
-      m) (λ k n. passes_then (passes_token 61 refl n) (λ p o.
+      m) (λ k n. passes_then (token_passes_its_byte 61 refl n) (λ p o.
       reads_bind ((pattern_reads_back edition t value h 0).back p (more_attributes more tail) (before more tail rest)
       (attributes_end_a_pattern more tail rest e) o)
-      (λ v q d r. passes_then (passes_over (no_block_is_before_attributes more q tail rest s r) r) (λ y z.
+      (λ v q d r. passes_then (skip_passes_over_relation (no_block_is_before_attributes more q tail rest s r) r) (λ y z.
       reads_bind (attributes_read_back more y tail rest a e s z)
       (λ bs w f u. term_with_reads_back i id value more x v bs w rest g d f u))))))))

@@ -13,10 +13,11 @@ use Rattle.fluent_syntax_grammar.specs.Layout.{Piece, run, placed, lf_at, counte
 use Rattle.fluent_syntax_grammar.specs.Elements.{Item, with_ending, common_indent_end, items_from, line_items}
 use Rattle.fluent_syntax_grammar.specs.Lines.{belongs}
 use Rattle.fluent_syntax_grammar.specs.Written.{Text}
-use Rattle.fluent_syntax_grammar.proofs.SuffixAt.{SuffixAt, first, suffix_first, suffix_next, suffix_past}
+use Rattle.fluent_syntax_grammar.proofs.SuffixAt.{SuffixAt, first, first_of_suffix, next_of_suffix, rest_past_front}
 use Rattle.fluent_syntax_grammar.proofs.SuffixAt.{suffix_byte_run}
 use Rattle.fluent_syntax_grammar.proofs.forward.Spells.{Spells, spells_text}
-use Rattle.fluent_syntax_grammar.proofs.forward.Lines.{is_mark_byte, line_of, reads_own, reads_no_pieces}
+use Rattle.fluent_syntax_grammar.proofs.forward.Lines.{is_mark_byte, line_of, line_reads_before_more_lines}
+use Rattle.fluent_syntax_grammar.proofs.forward.Lines.{reads_no_pieces}
 use Rattle.fluent_syntax_grammar.proofs.forward.Lines.{suffix_of_lf_has_eol}
 use Rattle.fluent_syntax_grammar.proofs.forward.Lines.{line_of_eol_belongs_to_pattern}
 use Rattle.fluent_syntax_grammar.proofs.forward.Pieces.{ReadsMidLine, Starts, Run}
@@ -27,9 +28,11 @@ place_is_before_later i n l = grind (arith, nat_tests)
 
 module _ (edition : Edition) (t : List ℕ) where
   -- after leading spaces a byte that is no mark begins a line that belongs
-  belongs_text : (i n b : ℕ) (bs : List ℕ) → 1 ≤ n → not (is_mark_byte b) ≡ true → SuffixAt t (i + n) (b ∷ bs) →
+  text_after_indent_belongs_to_pattern : (i n b : ℕ) (bs : List ℕ) → 1 ≤ n → not (is_mark_byte b) ≡ true →
+      SuffixAt t (i + n) (b ∷ bs) →
       belongs t (nat_lt i (i + n)) (i + n) ≡ true
-  belongs_text i n b bs l e m = rw (place_is_before_later i n l, suffix_first m, e) (or_with_true_is_true _)
+  text_after_indent_belongs_to_pattern i n b bs l e m =
+      rw (place_is_before_later i n l, first_of_suffix m, e) (or_with_true_is_true _)
 
   -- a line that begins with a run
   pub run_starts_line :
@@ -40,7 +43,7 @@ module _ (edition : Edition) (t : List ℕ) where
       Starts edition t (Some (length ind)) (elements (text_element (sp ++ (b ∷ bs))) es) (length (ind ++ sp) ∷ numbers)
       i rest
   run_starts_line ind sp b bs source es numbers rest i a n s e l k r =
-      let m = suffix_past (ind ++ sp) l in
+      let m = rest_past_front (ind ++ sp) l in
       let size = length-append ind sp in
       let kept : i + length ind ≡ i + min ((i + length (ind ++ sp)) - i) (length ind) = omega arith in
       let spaces : (i + length (ind ++ sp)) - i ≡ length (ind ++ sp) = omega arith in
@@ -49,9 +52,10 @@ module _ (edition : Edition) (t : List ℕ) where
             line_of edition t i (i + length (ind ++ sp)) (run (i + length (ind ++ sp)) r.to ∷ r.pieces) r.at ∷ r.lines;
         end = r.end;
         reads =
-            reads_own edition t (run (i + length (ind ++ sp)) r.to ∷ r.pieces) r.lines r.end
-            (suffix_byte_run is_space (ind ++ sp) (b ∷ (bs ++ source)) a s l) (suffix_first m)
-            (belongs_text i (length (ind ++ sp)) b (bs ++ source) n e m) r.reads_pieces r.ends r.reads_lines;
+            line_reads_before_more_lines edition t (run (i + length (ind ++ sp)) r.to ∷ r.pieces) r.lines r.end
+            (suffix_byte_run is_space (ind ++ sp) (b ∷ (bs ++ source)) a s l) (first_of_suffix m)
+            (text_after_indent_belongs_to_pattern i (length (ind ++ sp)) b (bs ++ source) n e m) r.reads_pieces r.ends
+            r.reads_lines;
         left = r.left;
         spells =
             r.spells (i + min ((i + length (ind ++ sp)) - i) (length ind))
@@ -68,18 +72,19 @@ module _ (edition : Edition) (t : List ℕ) where
       ((j : ℕ) → SuffixAt t j more → Starts edition t common (elements e es) numbers j rest) →
       Starts edition t common (elements (text_element v) (elements e es)) numbers i rest
   blank_text_starts_line common gap v more e es numbers rest i a l k next =
-      let m = suffix_past gap l in
-      let r = next (i + length gap + 1) (suffix_next m) in
+      let m = rest_past_front gap l in
+      let r = next (i + length gap + 1) (next_of_suffix m) in
       record {
         lines = line_of edition t i (i + length gap) [] (i + length gap) ∷ r.lines;
         end = r.end;
         reads =
-            reads_own edition t [] r.lines r.end (suffix_byte_run is_space gap (lf ∷ more) a refl l) (suffix_first m)
+            line_reads_before_more_lines edition t [] r.lines r.end (suffix_byte_run is_space gap (lf ∷ more) a refl l)
+            (first_of_suffix m)
             (line_of_eol_belongs_to_pattern edition t (nat_lt i (i + length gap)) (i + length gap)
             (suffix_of_lf_has_eol edition t m))
             (reads_no_pieces edition t m) m r.reads;
         left = r.left;
-        spells = spells_text k (suffix_next m) r.spells;
+        spells = spells_text k (next_of_suffix m) r.spells;
         counts = r.counts;
       }
 
@@ -127,13 +132,14 @@ module _ (t : List ℕ) where
   spaces_before_placeable_spell_in_two kept first at (run from to ∷ p ∷ ps) xs e es v source n k l s = elim s [ ]
   spaces_before_placeable_spell_in_two kept first at (placed x ∷ ps) xs e es v source n k l s = rw n (spells_text k l s)
 
-  two_counts : (spaces at : ℕ) (ps : List Piece) (xs : List Item) (e : ExpressionTree Text) (es : PatternTree Text) →
+  spelled_placeable_counts_its_spaces : (spaces at : ℕ) (ps : List Piece) (xs : List Item) (e : ExpressionTree Text)
+      (es : PatternTree Text) →
       Spells t (with_ending ps (lf_at at) ++ xs) (elements (placeable e) es) →
       counted_spaces Two spaces ps ≡ spaces ∷ []
-  two_counts spaces at [] xs e es s = elim s [ ]
-  two_counts spaces at (run from to ∷ []) xs e es s = elim s [ ]
-  two_counts spaces at (run from to ∷ p ∷ ps) xs e es s = elim s [ ]
-  two_counts spaces at (placed x ∷ ps) xs e es s = refl
+  spelled_placeable_counts_its_spaces spaces at [] xs e es s = elim s [ ]
+  spelled_placeable_counts_its_spaces spaces at (run from to ∷ []) xs e es s = elim s [ ]
+  spelled_placeable_counts_its_spaces spaces at (run from to ∷ p ∷ ps) xs e es s = elim s [ ]
+  spelled_placeable_counts_its_spaces spaces at (placed x ∷ ps) xs e es s = refl
 
   equal_number_is_not_less : (a b : ℕ) → a ≡ b → nat_lt a b ≡ false
   equal_number_is_not_less a b e = grind (arith, nat_tests)
@@ -145,14 +151,16 @@ module _ (t : List ℕ) where
       ReadsMidLine One t common (elements (placeable e) es) numbers (i + length ind) rest →
       Starts One t common (elements (placeable e) es) numbers i rest
   placeable_starts_line_in_edition_one common ind bs e es numbers rest i a n l m =
-      let k = suffix_past ind l in
+      let k = rest_past_front ind l in
       let line = line_of One t i (i + length ind) m.pieces m.at in
       record {
         lines = line ∷ m.lines;
         end = m.end;
         reads =
-            reads_own One t m.pieces m.lines m.end (suffix_byte_run is_space ind (123 ∷ bs) a refl l) (suffix_first k)
-            (belongs_text One t i (length ind) 123 bs n refl k) m.reads_pieces m.ends m.reads_lines;
+            line_reads_before_more_lines One t m.pieces m.lines m.end (suffix_byte_run is_space ind (123 ∷ bs) a refl l)
+            (first_of_suffix k)
+            (text_after_indent_belongs_to_pattern One t i (length ind) 123 bs n refl k) m.reads_pieces m.ends
+            m.reads_lines;
         left = m.left;
         spells =
             items_of_placeable_line_spell_in_one (common_indent_end common line)
@@ -172,15 +180,17 @@ module _ (t : List ℕ) where
       ReadsMidLine Two t (Some (length ind)) (elements (placeable e) es) numbers (i + length ind) rest →
       Starts Two t (Some (length ind)) (elements (placeable e) es) (length ind ∷ numbers) i rest
   placeable_starts_line_in_edition_two ind bs e es numbers rest i a n l m =
-      let k = suffix_past ind l in
+      let k = rest_past_front ind l in
       let line = line_of Two t i (i + length ind) m.pieces m.at in
       let spaces : (i + length ind) - i ≡ length ind = omega arith in
       record {
         lines = line ∷ m.lines;
         end = m.end;
         reads =
-            reads_own Two t m.pieces m.lines m.end (suffix_byte_run is_space ind (123 ∷ bs) a refl l) (suffix_first k)
-            (belongs_text Two t i (length ind) 123 bs n refl k) m.reads_pieces m.ends m.reads_lines;
+            line_reads_before_more_lines Two t m.pieces m.lines m.end (suffix_byte_run is_space ind (123 ∷ bs) a refl l)
+            (first_of_suffix k)
+            (text_after_indent_belongs_to_pattern Two t i (length ind) 123 bs n refl k) m.reads_pieces m.ends
+            m.reads_lines;
         left = m.left;
         spells =
             items_of_placeable_line_spell_in_two (common_indent_end (Some (length ind)) line)
@@ -189,7 +199,8 @@ module _ (t : List ℕ) where
             (equal_number_is_not_less _ _ (omega arith)) m.spells;
         counts =
             ap (λ ns. ns ++ flat_map (counted Two) m.lines)
-            (two_counts ((i + length ind) - i) m.at m.pieces (flat_map (line_items Two (Some (length ind))) m.lines) e
+            (spelled_placeable_counts_its_spaces ((i + length ind) - i) m.at m.pieces
+            (flat_map (line_items Two (Some (length ind))) m.lines) e
             es m.spells) ∙ ap (λ n. n ∷ flat_map (counted Two) m.lines) spaces
             ∙ ap (λ ns. length ind ∷ ns) m.counts;
       }
@@ -208,7 +219,7 @@ module _ (t : List ℕ) where
   spaces_start_line_in_edition_two ind sp bs e es numbers rest i a n l k m =
       let size = length-append ind sp in
       let whole = i + length (ind ++ sp) in
-      let there = suffix_past (ind ++ sp) l in
+      let there = rest_past_front (ind ++ sp) l in
       let line = line_of Two t i whole m.pieces m.at in
       let spaces : whole - i ≡ length (ind ++ sp) = omega arith in
       let kept : i + length ind ≡ i + min (whole - i) (length ind) = omega arith in
@@ -217,8 +228,10 @@ module _ (t : List ℕ) where
         lines = line ∷ m.lines;
         end = m.end;
         reads =
-            reads_own Two t m.pieces m.lines m.end (suffix_byte_run is_space (ind ++ sp) (123 ∷ bs) a refl l)
-            (suffix_first there) (belongs_text Two t i (length (ind ++ sp)) 123 bs (omega arith) refl there)
+            line_reads_before_more_lines Two t m.pieces m.lines m.end
+            (suffix_byte_run is_space (ind ++ sp) (123 ∷ bs) a refl l)
+            (first_of_suffix there)
+            (text_after_indent_belongs_to_pattern Two t i (length (ind ++ sp)) 123 bs (omega arith) refl there)
             m.reads_pieces m.ends m.reads_lines;
         left = m.left;
         spells =
@@ -229,7 +242,8 @@ module _ (t : List ℕ) where
             m.spells;
         counts =
             ap (λ ns. ns ++ flat_map (counted Two) m.lines)
-            (two_counts (whole - i) m.at m.pieces (flat_map (line_items Two (Some (length ind))) m.lines) e es
+            (spelled_placeable_counts_its_spaces (whole - i) m.at m.pieces
+            (flat_map (line_items Two (Some (length ind))) m.lines) e es
             m.spells) ∙ ap (λ n. n ∷ flat_map (counted Two) m.lines) spaces
             ∙ ap (λ ns. length (ind ++ sp) ∷ ns) m.counts;
       }

@@ -24,18 +24,20 @@ use Rattle.fluent_syntax_grammar.specs.Grammar as grammar
 use Rattle.fluent_syntax_grammar.specs.Written.{Text, is_last, last_of, has_lf}
 use Rattle.fluent_syntax_grammar.specs.Readable.{ElementPosition, after_line, within_line, after_placeable, is_text}
 use Rattle.fluent_syntax_grammar.specs.Readable.{are_elements, may_occur_at, position_after}
-use Rattle.fluent_syntax_grammar.proofs.Facts.{left_true, right_true}
-use Rattle.fluent_syntax_grammar.proofs.SuffixAt.{SuffixAt, suffix_as, first, suffix_byte_run, suffix_has_no_after_eol}
+use Rattle.fluent_syntax_grammar.proofs.Facts.{and_gives_left, and_gives_right}
+use Rattle.fluent_syntax_grammar.proofs.SuffixAt.{SuffixAt, suffix_by_equality, first, suffix_byte_run}
+use Rattle.fluent_syntax_grammar.proofs.SuffixAt.{suffix_has_no_after_eol}
 use Rattle.fluent_syntax_grammar.proofs.forward.Reading.{Reads}
 use Rattle.fluent_syntax_grammar.proofs.forward.Spells.{items_spell_their_pattern}
 use Rattle.fluent_syntax_grammar.proofs.marks.WrittenBytes.{element_bytes, elements_bytes, line_indent}
 use Rattle.fluent_syntax_grammar.proofs.forward.Runs.{is_run_byte, ends_in_cr_before, text_without_brace_and_lf_is_run}
 use Rattle.fluent_syntax_grammar.proofs.forward.Runs.{place_of_run_byte_is_run_place, no_eol_in_run}
 use Rattle.fluent_syntax_grammar.proofs.forward.Lines.{Ends, ending_at_lf_reads_lf}
-use Rattle.fluent_syntax_grammar.proofs.forward.Pieces.{ReadsMidLine, mid_end, placeable_reads_mid_line, mid_run}
-use Rattle.fluent_syntax_grammar.proofs.forward.Pieces.{run_end}
+use Rattle.fluent_syntax_grammar.proofs.forward.Pieces.{ReadsMidLine, line_end_ends_mid_line, placeable_reads_mid_line}
+use Rattle.fluent_syntax_grammar.proofs.forward.Pieces.{mid_run}
+use Rattle.fluent_syntax_grammar.proofs.forward.Pieces.{run_ends_at_line_end}
 use Rattle.fluent_syntax_grammar.proofs.forward.Pieces.{run_before_placeable_is_run}
-use Rattle.fluent_syntax_grammar.proofs.Tests.{neither_left, neither_right, not_true_is_false, negated_right_is_false}
+use Rattle.fluent_syntax_grammar.proofs.Tests.{false_or_left, false_or_right, not_true_is_false, negated_right_is_false}
 use Rattle.fluent_syntax_grammar.proofs.LineEnds.{no_bytes_no_eol}
 
 -- A placeable that is an element is read back.
@@ -89,11 +91,11 @@ last_of_bytes_without_lf_is_other : (c : ℕ) (v : List ℕ) → (c == lf) ≡ f
     is_last lf (last_of (Some c) v) ≡ false
 last_of_bytes_without_lf_is_other c [] e f = e
 last_of_bytes_without_lf_is_other c (b ∷ v) e f =
-    last_of_bytes_without_lf_is_other b v (neither_left (b == lf) (has_lf v) f) (neither_right (b == lf) (has_lf v) f)
+    last_of_bytes_without_lf_is_other b v (false_or_left (b == lf) (has_lf v) f) (false_or_right (b == lf) (has_lf v) f)
 
 pub ends_not_in_lf : (v : List ℕ) → has_lf v ≡ false → ends_in_lf v ≡ false
 ends_not_in_lf [] e = refl
-ends_not_in_lf (b ∷ v) e = last_of_bytes_without_lf_is_other b (b ∷ v) (neither_left (b == lf) (has_lf v) e) e
+ends_not_in_lf (b ∷ v) e = last_of_bytes_without_lf_is_other b (b ∷ v) (false_or_left (b == lf) (has_lf v) e) e
 
 module _ (edition : Edition) (t : List ℕ) (level : ℕ) (common : Option ℕ) (tail rest : List ℕ) (ends : Ends tail rest)
   where
@@ -103,14 +105,15 @@ module _ (edition : Edition) (t : List ℕ) (level : ℕ) (common : Option ℕ) 
     pub one_line_text_has_run_bytes : (v : Text) → is_text v ≡ true → has_lf v ≡ false → list_all is_run_byte v ≡ true
     one_line_text_has_run_bytes v e f =
         text_without_brace_and_lf_is_run v (not_true_is_false (list_any is_brace v)
-        (left_true (not (list_any is_brace v)) _ (right_true (not (is_empty v)) _ e))) f
+        (and_gives_left (not (list_any is_brace v)) _ (and_gives_right (not (is_empty v)) _ e))) f
 
     one_line_text_at_end_reads_back : (v : Text) (i : ℕ) → is_text v ≡ true → has_lf v ≡ false → ends_plainly v ≡ true →
         SuffixAt t i (v ++ (lf ∷ tail)) → ReadsBackFrom (elements (text_element v) no_elements) i
     one_line_text_at_end_reads_back [] i e f p l = absurd cc
     one_line_text_at_end_reads_back (b ∷ bs) i e f p l =
         let r =
-        run_end edition t common (b ∷ bs) tail rest i b bs p ends (one_line_text_has_run_bytes (b ∷ bs) e f)
+        run_ends_at_line_end edition t common (b ∷ bs) tail rest i b bs p ends
+        (one_line_text_has_run_bytes (b ∷ bs) e f)
         (rw (plain_no_cr (b ∷ bs) p) refl) l in
         mid_run edition t common (b ∷ bs) no_elements [] (lf ∷ tail) rest i r l
 
@@ -123,11 +126,11 @@ module _ (edition : Edition) (t : List ℕ) (level : ℕ) (common : Option ℕ) 
     one_line_text_before_placeable_reads_back [] e es i g f l k = absurd cc
     one_line_text_before_placeable_reads_back (b ∷ bs) e es i g f l k =
         let x = bytes_of_placeable_begin_with_brace level e (elements_bytes level false es (lf ∷ tail)) in
-        let m = suffix_as (ap (λ xs. b ∷ (bs ++ xs)) x.are) l in
+        let m = suffix_by_equality (ap (λ xs. b ∷ (bs ++ xs)) x.are) l in
         let r =
         run_before_placeable_is_run edition t common (b ∷ bs) e es [] rest i b bs x.rest
         (one_line_text_has_run_bytes (b ∷ bs) g f) m
-        (λ j n. k j (suffix_as (sym x.are) n)) in
+        (λ j n. k j (suffix_by_equality (sym x.are) n)) in
         mid_run edition t common (b ∷ bs) (elements (placeable e) es) [] (123 ∷ x.rest) rest i r m
 
     pub no_text_follows_one_line_text : (v w : Text) (es : PatternTree Text) → has_lf v ≡ false →
@@ -142,33 +145,35 @@ module _ (edition : Edition) (t : List ℕ) (level : ℕ) (common : Option ℕ) 
     pub one_line_elements_read_back : (es : PatternTree Text) (s : ElementPosition) (i : ℕ) →
         ElementsReadBack edition t level es → are_elements edition false s es ≡ true → has_no_lf es ≡ true →
         SuffixAt t i (elements_bytes level false es (lf ∷ tail)) → ReadsBackFrom es i
-    one_line_elements_read_back no_elements s i h g f l = mid_end edition t common tail rest i ends l
+    one_line_elements_read_back no_elements s i h g f l = line_end_ends_mid_line edition t common tail rest i ends l
     one_line_elements_read_back (elements (placeable e) es) s i h g f l =
         let x = bytes_of_placeable_begin_with_brace level e (elements_bytes level false es (lf ∷ tail)) in
         placeable_reads_mid_line edition t common e es [] i x.rest (elements_bytes level false es (lf ∷ tail)) rest
-        (suffix_as x.are l)
+        (suffix_by_equality x.are l)
         (h.0.back i (elements_bytes level false es (lf ∷ tail)) l)
         (λ j m. one_line_elements_read_back es after_placeable j h.1 g f m)
     one_line_elements_read_back (elements (text_element v) no_elements) s i h g f l =
-        one_line_text_at_end_reads_back v i (left_true (is_text v) _ g)
-        (not_true_is_false (has_lf v) (left_true (not (has_lf v)) true f))
-        (left_true (ends_plainly v)
-        _ (right_true (may_occur_at edition false s v no_elements) _ (right_true (is_text v) _ g))) l
+        one_line_text_at_end_reads_back v i (and_gives_left (is_text v) _ g)
+        (not_true_is_false (has_lf v) (and_gives_left (not (has_lf v)) true f))
+        (and_gives_left (ends_plainly v)
+        _ (and_gives_right (may_occur_at edition false s v no_elements) _ (and_gives_right (is_text v) _ g))) l
     one_line_elements_read_back (elements (text_element v) (elements (placeable e) es)) s i h g f l =
-        one_line_text_before_placeable_reads_back v e es i (left_true (is_text v) _ g)
-        (not_true_is_false (has_lf v) (left_true (not (has_lf v)) _ f))
-        (suffix_as (ap (λ b. v ++
+        one_line_text_before_placeable_reads_back v e es i (and_gives_left (is_text v) _ g)
+        (not_true_is_false (has_lf v) (and_gives_left (not (has_lf v)) _ f))
+        (suffix_by_equality (ap (λ b. v ++
         (line_indent level b ++ element_bytes level (placeable e) (elements_bytes level false es (lf ∷ tail))))
-        (ends_not_in_lf v (not_true_is_false (has_lf v) (left_true (not (has_lf v)) _ f)))) l)
+        (ends_not_in_lf v (not_true_is_false (has_lf v) (and_gives_left (not (has_lf v)) _ f)))) l)
         (λ j m. one_line_elements_read_back (elements (placeable e) es) (position_after v) j h
-        (right_true (may_occur_at edition false s v (elements (placeable e) es)) _ (right_true (is_text v) _ g))
-        (right_true (not (has_lf v)) _ f) m)
+        (and_gives_right (may_occur_at edition false s v (elements (placeable e) es)) _
+        (and_gives_right (is_text v) _ g))
+        (and_gives_right (not (has_lf v)) _ f) m)
     one_line_elements_read_back (elements (text_element v) (elements (text_element w) es)) s i h g f l =
-        absurd (no_text_follows_one_line_text v w es (not_true_is_false (has_lf v) (left_true (not (has_lf v)) _ f))
-        (left_true (may_occur_at edition false (position_after v) w es)
-        _ (right_true (is_text w)
-        _ (right_true (may_occur_at edition false s v (elements (text_element w) es))
-        _ (right_true (is_text v) _ g)))))
+        absurd (no_text_follows_one_line_text v w es
+        (not_true_is_false (has_lf v) (and_gives_left (not (has_lf v)) _ f))
+        (and_gives_left (may_occur_at edition false (position_after v) w es)
+        _ (and_gives_right (is_text w)
+        _ (and_gives_right (may_occur_at edition false s v (elements (text_element w) es))
+        _ (and_gives_right (is_text v) _ g)))))
 
 -- ---- the pattern
 
@@ -182,8 +187,8 @@ module _ (edition : Edition) (t : List ℕ) where
       ends_in_cr_before (b ∷ bs) ys ≡ false → SuffixAt t i (b ∷ (bs ++ ys)) → OpensAt t i (b ∷ (bs ++ ys))
   run_opens_at_its_place i b bs ys s a c l =
       let on : is_run_place t i ≡ true =
-      place_of_run_byte_is_run_place t i b (bs ++ ys) (left_true (is_run_byte b) (list_all is_run_byte bs) a)
-      (no_eol_in_run b bs ys (right_true (is_run_byte b) (list_all is_run_byte bs) a) c) l in
+      place_of_run_byte_is_run_place t i b (bs ++ ys) (and_gives_left (is_run_byte b) (list_all is_run_byte bs) a)
+      (no_eol_in_run b bs ys (and_gives_right (is_run_byte b) (list_all is_run_byte bs) a) c) l in
       record {
         no_space = s;
         no_eol =
@@ -193,7 +198,7 @@ module _ (edition : Edition) (t : List ℕ) where
 
   pub brace_opens_at_its_place : (i : ℕ) (bs ys : List ℕ) → bs ≡ 123 ∷ ys → SuffixAt t i bs → OpensAt t i bs
   brace_opens_at_its_place i bs ys e l =
-      record { no_space = rw e refl; no_eol = suffix_has_no_after_eol (suffix_as e l) refl refl }
+      record { no_space = rw e refl; no_eol = suffix_has_no_after_eol (suffix_by_equality e l) refl refl }
 
   -- the layout of a pattern that opens within its line
   layout_of_opening_pieces_is_read : (i j at end : ℕ) (ps : List Piece) (ls : List Line) (bs : List ℕ) →

@@ -13,8 +13,8 @@ use Rattle.fluent_syntax_grammar.specs.Written.{Text, is_last, last_of, has_lf, 
 use Rattle.fluent_syntax_grammar.specs.Readable.{opening, is_text, are_elements, may_occur_at, may_be_first}
 use Rattle.fluent_syntax_grammar.specs.Readable.{is_pattern, position_after}
 use Rattle.fluent_syntax_grammar.specs.Elements.{is_nonblank}
-use Rattle.fluent_syntax_grammar.proofs.Facts.{left_true, right_true}
-use Rattle.fluent_syntax_grammar.proofs.SuffixAt.{SuffixAt, suffix_as, suffix_next}
+use Rattle.fluent_syntax_grammar.proofs.Facts.{and_gives_left, and_gives_right}
+use Rattle.fluent_syntax_grammar.proofs.SuffixAt.{SuffixAt, suffix_by_equality, next_of_suffix}
 use Rattle.fluent_syntax_grammar.proofs.marks.WrittenBytes.{element_bytes, elements_bytes, pattern_bytes, line_indent}
 use Rattle.fluent_syntax_grammar.proofs.forward.Lines.{Ends}
 use Rattle.fluent_syntax_grammar.proofs.forward.OneLine.{ElementsReadBack, has_no_lf}
@@ -24,13 +24,15 @@ use Rattle.fluent_syntax_grammar.proofs.forward.OneLine.{no_text_follows_one_lin
 use Rattle.fluent_syntax_grammar.proofs.forward.OneLine.{OpensAt, run_opens_at_its_place, brace_opens_at_its_place}
 use Rattle.fluent_syntax_grammar.proofs.forward.OneLine.{opening_reads_back}
 use Rattle.fluent_syntax_grammar.proofs.forward.Entries.{PatternReadsBack}
-use Rattle.fluent_syntax_grammar.proofs.Tests.{and_with_false_is_false, neither_left, neither_right, not_true_is_false}
+use Rattle.fluent_syntax_grammar.proofs.Tests.{and_with_false_is_false, false_or_left, false_or_right}
+use Rattle.fluent_syntax_grammar.proofs.Tests.{not_true_is_false}
 
 one_line_no_lf : (p : PatternTree Text) → is_multiline p ≡ false → has_no_lf p ≡ true
 one_line_no_lf no_elements e = refl
 one_line_no_lf (elements (text_element v) es) e =
-    rw (neither_left (has_lf v) (is_multiline es) e) (one_line_no_lf es (neither_right (has_lf v) (is_multiline es) e))
-one_line_no_lf (elements (placeable x) es) e = one_line_no_lf es (neither_right _ (is_multiline es) e)
+    rw (false_or_left (has_lf v) (is_multiline es) e)
+    (one_line_no_lf es (false_or_right (has_lf v) (is_multiline es) e))
+one_line_no_lf (elements (placeable x) es) e = one_line_no_lf es (false_or_right _ (is_multiline es) e)
 
 one_line_pattern_begins_with_space : (level : ℕ) (p : PatternTree Text) (tail : Text) → is_multiline p ≡ false →
     pattern_bytes level p tail ≡ space ∷ elements_bytes level false p tail
@@ -51,27 +53,29 @@ module _ (edition : Edition) (t : List ℕ) (level : ℕ) (tail rest : List ℕ)
       brace_opens_at_its_place edition t i _ b.rest b.are l
   one_line_pattern_opens_at_its_place (elements (text_element []) es) i e g l n = absurd cc
   one_line_pattern_opens_at_its_place (elements (text_element (b ∷ bs)) no_elements) i e g l n =
-      let is : is_text (b ∷ bs) ≡ true = left_true (is_text (b ∷ bs)) _ g in
-      let more = right_true (is_text (b ∷ bs)) _ g in
+      let is : is_text (b ∷ bs) ≡ true = and_gives_left (is_text (b ∷ bs)) _ g in
+      let more = and_gives_right (is_text (b ∷ bs)) _ g in
       let begins =
       not_true_is_false (is_space b)
-      (right_true (is_nonblank (b ∷ bs)) _ (left_true (may_be_first edition false (b ∷ bs) no_elements) _ more)) in
+      (and_gives_right (is_nonblank (b ∷ bs)) _
+      (and_gives_left (may_be_first edition false (b ∷ bs) no_elements) _ more)) in
       let plain : ends_plainly (b ∷ bs) ≡ true =
-      left_true (ends_plainly (b ∷ bs)) _ (right_true (may_be_first edition false (b ∷ bs) no_elements) _ more) in
+      and_gives_left (ends_plainly (b ∷ bs)) _
+      (and_gives_right (may_be_first edition false (b ∷ bs) no_elements) _ more) in
       run_opens_at_its_place edition t i b bs (lf ∷ tail) begins
       (one_line_text_has_run_bytes edition t level None tail rest ends (b ∷ bs) is
-      (neither_left (has_lf (b ∷ bs)) false e))
+      (false_or_left (has_lf (b ∷ bs)) false e))
       (rw (plain_no_cr (b ∷ bs) plain) refl) l
   one_line_pattern_opens_at_its_place (elements (text_element (b ∷ bs)) (elements (placeable x) es)) i e g l n =
-      let is : is_text (b ∷ bs) ≡ true = left_true (is_text (b ∷ bs)) _ g in
+      let is : is_text (b ∷ bs) ≡ true = and_gives_left (is_text (b ∷ bs)) _ g in
       let begins =
       not_true_is_false (is_space b)
-      (right_true (is_nonblank (b ∷ bs))
-      _ (left_true (may_be_first edition false (b ∷ bs) (elements (placeable x) es))
-      _ (right_true (is_text (b ∷ bs)) _ g))) in
+      (and_gives_right (is_nonblank (b ∷ bs))
+      _ (and_gives_left (may_be_first edition false (b ∷ bs) (elements (placeable x) es))
+      _ (and_gives_right (is_text (b ∷ bs)) _ g))) in
       let brace = bytes_of_placeable_begin_with_brace level x (elements_bytes level false es (lf ∷ tail)) in
       let no_lf : has_lf (b ∷ bs) ≡ false =
-      neither_left (has_lf (b ∷ bs)) (is_multiline (elements (placeable x) es)) e in
+      false_or_left (has_lf (b ∷ bs)) (is_multiline (elements (placeable x) es)) e in
       let are =
       ap (λ c. b ∷
       (bs ++
@@ -79,14 +83,14 @@ module _ (edition : Edition) (t : List ℕ) (level : ℕ) (tail rest : List ℕ)
       (ends_not_in_lf (b ∷ bs) no_lf) ∙ ap (λ xs. b ∷ (bs ++ xs)) brace.are in
       opens_at_equal_bytes are (run_opens_at_its_place edition t i b bs (123 ∷ brace.rest) begins
       (one_line_text_has_run_bytes edition t level None tail rest ends (b ∷ bs) is no_lf)
-      (and_with_false_is_false (is_last cr (last_of None (b ∷ bs)))) (suffix_as are l))
+      (and_with_false_is_false (is_last cr (last_of None (b ∷ bs)))) (suffix_by_equality are l))
   one_line_pattern_opens_at_its_place (elements (text_element (b ∷ bs)) (elements (text_element w) es)) i e g l n =
       absurd (no_text_follows_one_line_text edition t level None tail rest ends (b ∷ bs) w es
-      (neither_left (has_lf (b ∷ bs)) (is_multiline (elements (text_element w) es)) e)
-      (left_true (may_occur_at edition false (position_after (b ∷ bs)) w es)
-      _ (right_true (is_text w)
-      _ (right_true (may_be_first edition false (b ∷ bs) (elements (text_element w) es))
-      _ (right_true (is_text (b ∷ bs)) _ g)))))
+      (false_or_left (has_lf (b ∷ bs)) (is_multiline (elements (text_element w) es)) e)
+      (and_gives_left (may_occur_at edition false (position_after (b ∷ bs)) w es)
+      _ (and_gives_right (is_text w)
+      _ (and_gives_right (may_be_first edition false (b ∷ bs) (elements (text_element w) es))
+      _ (and_gives_right (is_text (b ∷ bs)) _ g)))))
 
   one_line_pattern_reads_back_there : (e : ElementTree Text) (es : PatternTree Text) (i : ℕ) →
       is_multiline (elements e es) ≡ false →
@@ -94,12 +98,12 @@ module _ (edition : Edition) (t : List ℕ) (level : ℕ) (tail rest : List ℕ)
       SuffixAt t i (pattern_bytes level (elements e es) (lf ∷ tail)) →
       Reads t (grammar.pattern edition t) (option_map (pattern_map (bytes_at t))) i (Some (elements e es)) rest
   one_line_pattern_reads_back_there e es i a g h l =
-      let m = suffix_as (one_line_pattern_begins_with_space level (elements e es) (lf ∷ tail) a) l in
+      let m = suffix_by_equality (one_line_pattern_begins_with_space level (elements e es) (lf ∷ tail) a) l in
       let good = elements_off_line_start (is_multiline (elements e es)) a g in
       opening_reads_back edition t None [] e es i (elements_bytes level false (elements e es) (lf ∷ tail)) rest refl m
-      (one_line_pattern_opens_at_its_place (elements e es) (i + 1) a good (suffix_next m) none_absurd)
+      (one_line_pattern_opens_at_its_place (elements e es) (i + 1) a good (next_of_suffix m) none_absurd)
       (one_line_elements_read_back edition t level None tail rest ends (elements e es) opening (i + 1) h good
-      (one_line_no_lf (elements e es) a) (suffix_next m))
+      (one_line_no_lf (elements e es) a) (next_of_suffix m))
     where
       elements_off_line_start : (b : Bool) → b ≡ false → are_elements edition b opening (elements e es) ≡ true →
           are_elements edition false opening (elements e es) ≡ true

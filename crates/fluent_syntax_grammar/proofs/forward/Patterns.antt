@@ -14,7 +14,7 @@ use Rattle.fluent_syntax_tree.specs.declared.edition.Edition.{Edition}
 use Rattle.fluent_syntax_grammar.specs.PatternTexts.{ends_in_lf, is_spaces, after_spaces, begins_with_space}
 use Rattle.fluent_syntax_grammar.specs.Bytes.{lf, cr, space, is_space}
 use Rattle.fluent_syntax_grammar.specs.Places.{holds, BlankBlock, no_line}
-use Rattle.fluent_syntax_grammar.proofs.forward.Selects.{appended_spaces_are_spaces, spaces_of}
+use Rattle.fluent_syntax_grammar.proofs.forward.Selects.{appended_spaces_are_spaces, replicated_spaces_are_spaces}
 use Rattle.fluent_syntax_grammar.specs.Construct.{Read, goes_on, given, passed, chosen}
 use Rattle.fluent_syntax_grammar.specs.Elements.{is_nonblank, line_items, items, pattern_of, cut, spelled, if_any}
 use Rattle.fluent_syntax_grammar.specs.Patterns.{layout_at, layout}
@@ -26,14 +26,17 @@ use Rattle.fluent_syntax_grammar.specs.Written.{is_last, last_of, is_multiline}
 use Rattle.fluent_syntax_grammar.specs.Readable.{ElementPosition, opening, after_line, after_placeable, are_elements}
 use Rattle.fluent_syntax_grammar.specs.Readable.{is_pattern, is_text, indents, may_be_first, begins_with_placeable}
 use Rattle.fluent_syntax_grammar.specs.Canonical.{line_indents, are_flush, hides_mark, first_position, is_flush}
-use Rattle.fluent_syntax_grammar.proofs.Facts.{left_true, right_true, right_of_false_and_is_false, equal}
-use Rattle.fluent_syntax_grammar.proofs.Tests.{both_true, differ}
-use Rattle.fluent_syntax_grammar.proofs.SuffixAt.{SuffixAt, first, suffix_as, suffix_past, suffix_byte_run, suffix_next}
+use Rattle.fluent_syntax_grammar.proofs.Facts.{and_gives_left, and_gives_right, right_of_false_and_is_false}
+use Rattle.fluent_syntax_grammar.proofs.Facts.{same_by_test}
+use Rattle.fluent_syntax_grammar.proofs.Tests.{true_and_true, parted_by_test}
+use Rattle.fluent_syntax_grammar.proofs.SuffixAt.{SuffixAt, first, suffix_by_equality, rest_past_front, suffix_byte_run}
+use Rattle.fluent_syntax_grammar.proofs.SuffixAt.{next_of_suffix}
 use Rattle.fluent_syntax_grammar.proofs.SuffixAt.{suffix_has_no_after_eol}
 use Rattle.fluent_syntax_grammar.proofs.forward.Reading.{Reads}
 use Rattle.fluent_syntax_grammar.proofs.marks.WrittenBytes.{element_bytes, elements_bytes, line_indent, pattern_bytes}
 use Rattle.fluent_syntax_grammar.proofs.forward.Entries.{PatternReadsBack}
-use Rattle.fluent_syntax_grammar.proofs.forward.Lines.{Ends, lf_after, no_spaces}
+use Rattle.fluent_syntax_grammar.proofs.forward.Lines.{Ends, line_end_at_lf_is_one_byte}
+use Rattle.fluent_syntax_grammar.proofs.forward.Lines.{inline_blank_without_space_is_empty}
 use Rattle.fluent_syntax_grammar.proofs.forward.Pieces.{Starts}
 use Rattle.fluent_syntax_grammar.proofs.forward.Spells.{items_spell_their_pattern}
 use Rattle.fluent_syntax_grammar.proofs.forward.OneLine.{ElementsReadBack, OpensAt, run_opens_at_its_place}
@@ -49,16 +52,19 @@ use Rattle.fluent_syntax_grammar.proofs.forward.Runs.{lf_is_taken_off}
 use Rattle.fluent_syntax_grammar.proofs.forward.Multiline.{text_of_spaces_is_blank, no_lf_ends_run, last_of-gap}
 use Rattle.fluent_syntax_grammar.proofs.forward.Multiline.{appended_nothing_leaves_list}
 use Rattle.fluent_syntax_grammar.proofs.forward.Multiline.{rest_of_run_is_run, no_text_follows_text_without_lf}
-use Rattle.fluent_syntax_grammar.proofs.forward.Multiline.{text_element_is_text, text_holds}
-use Rattle.fluent_syntax_grammar.proofs.forward.Multiline.{text_may_precede_what_follows, text_more}
+use Rattle.fluent_syntax_grammar.proofs.forward.Multiline.{text_element_is_text, text_of_elements_may_occur}
+use Rattle.fluent_syntax_grammar.proofs.forward.Multiline.{text_may_precede_what_follows}
+use Rattle.fluent_syntax_grammar.proofs.forward.Multiline.{elements_after_text_are_elements}
 use Rattle.fluent_syntax_grammar.proofs.Tests.{and_with_false_is_false, not_true_is_false}
 
 -- ---- the least of the shifted numbers
 
-least_shifts : (s : ℕ) (ns : List ℕ) → least (map (λ n. s + n) ns) ≡ option_map (λ n. s + n) (least ns)
-least_shifts s [] = refl
-least_shifts s (n ∷ ns) =
-    ap (λ o. Some (least_with (s + n) o)) (least_shifts s ns) ∙ ap Some (least_with_shifted_is_shifted n (least ns))
+least_of_shifted_is_shifted_least : (s : ℕ) (ns : List ℕ) →
+    least (map (λ n. s + n) ns) ≡ option_map (λ n. s + n) (least ns)
+least_of_shifted_is_shifted_least s [] = refl
+least_of_shifted_is_shifted_least s (n ∷ ns) =
+    ap (λ o. Some (least_with (s + n) o)) (least_of_shifted_is_shifted_least s ns) ∙
+    ap Some (least_with_shifted_is_shifted n (least ns))
   where
     least_with_shifted_is_shifted : (n : ℕ) (o : Option ℕ) →
         least_with (s + n) (option_map (λ n. s + n) o) ≡ s + least_with n o
@@ -81,12 +87,13 @@ chosen_indent_by_least edition shift s p None e f =
     let none = no_least_is_empty (line_indents edition s p) e in
     record { common = None; fit = lone f none; least_is = ap (λ ns. least (map (λ n. shift + n) ns)) none }
 chosen_indent_by_least edition shift s p (Some n) e f =
-    let zero_n : n ≡ 0 = equal n 0 f in
+    let zero_n : n ≡ 0 = same_by_test n 0 f in
     let at : Some (shift + n) ≡ Some shift = ap Some (plus_zero n zero_n) in
     record {
       common = Some shift;
       fit = fixed;
-      least_is = least_shifts shift (line_indents edition s p) ∙ ap (option_map (λ n. shift + n)) e ∙ at;
+      least_is = least_of_shifted_is_shifted_least shift (line_indents edition s p) ∙ ap (option_map (λ n. shift + n)) e
+          ∙ at;
     }
   where
     plus_zero : (n : ℕ) → n ≡ 0 → shift + n ≡ shift
@@ -104,8 +111,10 @@ module _ (edition : Edition) (t : List ℕ) (level : ℕ) (tail rest : List ℕ)
       OpensAt t i (b ∷ bs)
   mark_opens_at_its_place i b bs e l =
       record {
-        no_space = differ is_leading_mark b space e refl;
-        no_eol = suffix_has_no_after_eol l (differ is_leading_mark b lf e refl) (differ is_leading_mark b cr e refl);
+        no_space = parted_by_test is_leading_mark b space e refl;
+        no_eol =
+            suffix_has_no_after_eol l (parted_by_test is_leading_mark b lf e refl)
+            (parted_by_test is_leading_mark b cr e refl);
       }
 
   pattern_with_leading_mark_opens : (e : ElementTree Text) (es : PatternTree Text) (i : ℕ) →
@@ -125,7 +134,7 @@ module _ (edition : Edition) (t : List ℕ) (level : ℕ) (tail rest : List ℕ)
       Reads t (grammar.pattern edition t) (option_map (pattern_map (bytes_at t))) i (Some (elements e es)) rest
   marked_reads_back e es i m g f h l =
       let c = flush_is_chosen edition (length (indent (level + 1))) after_placeable (elements e es) f in
-      let n = suffix_next l in
+      let n = next_of_suffix l in
       opening_reads_back edition t c.common
       (map (λ n. length (indent (level + 1)) + n) (line_indents edition after_placeable (elements e es))) e es i
       (elements_bytes (level + 1) false (elements e es) (lf ∷ tail)) rest c.least_is l
@@ -141,11 +150,11 @@ opening_elements_may_be_at_line : (edition : Edition) (e : ElementTree Text) (es
     are_elements edition true after_line (elements e es) ≡ true
 opening_elements_may_be_at_line edition (placeable x) es a b g = g
 opening_elements_may_be_at_line edition (text_element v) es a b g =
-    both_true (left_true (is_text v) _ g)
-    (both_true (text_without_mark_may_occur v (is_spaces v) refl (left_true (may_be_first edition true v es) _
-    (right_true (is_text v) _ g))
+    true_and_true (and_gives_left (is_text v) _ g)
+    (true_and_true (text_without_mark_may_occur v (is_spaces v) refl (and_gives_left (may_be_first edition true v es) _
+    (and_gives_right (is_text v) _ g))
     (text_that_hides_no_mark_has_none v a b))
-    (right_true (may_be_first edition true v es) _ (right_true (is_text v) _ g)))
+    (and_gives_right (may_be_first edition true v es) _ (and_gives_right (is_text v) _ g)))
   where
     text_that_hides_no_mark_has_none : (v : Text) → (begins_with_space v && begins_with_mark (after_spaces v)) ≡ false →
         begins_with_mark v ≡ false → begins_with_mark (after_spaces v) ≡ false
@@ -164,7 +173,7 @@ opening_elements_may_be_at_line edition (text_element v) es a b g =
         ((not (is_spaces v) || indents edition v es) && not (begins_with_mark (after_spaces v))) ≡ true
     text_without_mark_may_occur v false e f m = rw (e, m) refl
     text_without_mark_may_occur v true e f m =
-        rw (e, m) (both_true (sym (ap (λ b. b || indents edition v es) (text_of_spaces_is_blank v e)) ∙ f) refl)
+        rw (e, m) (true_and_true (sym (ap (λ b. b || indents edition v es) (text_of_spaces_is_blank v e)) ∙ f) refl)
 
 opening_flush_is_line_flush : (edition : Edition) (e : ElementTree Text) (es : PatternTree Text) (o : Option ℕ) →
     are_flush o opening (elements e es) ≡ true → are_flush o after_line (elements e es) ≡ true
@@ -184,8 +193,9 @@ module _ (edition : Edition) (t : List ℕ) where
       layout t (family edition t) i (Read (record { opening = None; lines = ls }) end)
   layout_of_lines_below_is_read i end ls bs l b m =
       let y : Layout = record { opening = None; lines = ls } in
-      goes_on (passed (no_spaces edition t refl l))
-      (chosen (subst (λ o. layout_at t (family edition t) o i (Read y end)) (sym (lf_after edition t l))
+      goes_on (passed (inline_blank_without_space_is_empty edition t refl l))
+      (chosen (subst (λ o. layout_at t (family edition t) o i (Read y end))
+      (sym (line_end_at_lf_is_one_byte edition t l))
       (goes_on (passed (record { there = refl })) (goes_on (passed b) (goes_on m given)))))
 
   -- it is read back, if its lines are
@@ -217,20 +227,21 @@ second_of_or_is_true true y e f = cc
 indenting_text_is_spaces : (edition : Edition) (v : Text) (es : PatternTree Text) → indents edition v es ≡ true →
     (is_spaces v ≡ true) × (begins_with_placeable es ≡ true)
 indenting_text_is_spaces One v es e = absurd cc
-indenting_text_is_spaces Two v es e = (left_true (is_spaces v) _ e, right_true (is_spaces v) _ e)
+indenting_text_is_spaces Two v es e = (and_gives_left (is_spaces v) _ e, and_gives_right (is_spaces v) _ e)
 
 module _ (edition : Edition) (t : List ℕ) (level : ℕ) (tail : List ℕ) where
   no_block_is_before_opening : (i : ℕ) (gap : List ℕ) (bs : List ℕ) → list_all is_space gap ≡ true →
       OpensAt t (i + length gap) bs → SuffixAt t i (gap ++ bs) → BlankBlock t i i
   no_block_is_before_opening i gap bs a o l = no_line (suffix_byte_run is_space gap bs a o.no_space l) o.no_eol
 
-  first_placeable : (i : ℕ) (gap : List ℕ) (e : ExpressionTree Text) (rest : List ℕ) → list_all is_space gap ≡ true →
+  blank_block_before_placeable_is_empty : (i : ℕ) (gap : List ℕ) (e : ExpressionTree Text) (rest : List ℕ) →
+      list_all is_space gap ≡ true →
       SuffixAt t i (gap ++ element_bytes level (placeable e) rest) → BlankBlock t i i
-  first_placeable i gap e rest a l =
+  blank_block_before_placeable_is_empty i gap e rest a l =
       let x = bytes_of_placeable_begin_with_brace level e rest in
       no_block_is_before_opening i gap (element_bytes level (placeable e) rest) a
       (brace_opens_at_its_place edition t (i + length gap) (element_bytes level (placeable e) rest) x.rest x.are
-      (suffix_past gap l)) l
+      (rest_past_front gap l)) l
 
   no_block_is_before_first_run : (i : ℕ) (gap : List ℕ) (b : ℕ) (bs ys : List ℕ) →
       list_all is_space (indent level ++ gap) ≡ true →
@@ -240,10 +251,10 @@ module _ (edition : Edition) (t : List ℕ) (level : ℕ) (tail : List ℕ) wher
       let whole : indent level ++ ((gap ++ (b ∷ bs)) ++ ys) ≡ (indent level ++ gap) ++ (b ∷ (bs ++ ys)) =
       ap (λ v. indent level ++ v) (append_assoc gap (b ∷ bs) ys)
       ∙ sym (append_assoc (indent level) gap (b ∷ (bs ++ ys))) in
-      let m = suffix_as whole l in
+      let m = suffix_by_equality whole l in
       no_block_is_before_opening i (indent level ++ gap) (b ∷ (bs ++ ys)) a
       (run_opens_at_its_place edition t (i + length (indent level ++ gap)) b bs ys s r c
-      (suffix_past (indent level ++ gap) m)) m
+      (rest_past_front (indent level ++ gap) m)) m
 
 module _ (edition : Edition) (t : List ℕ) (level : ℕ) (common : Option ℕ) (tail rest : List ℕ) (ends : Ends tail rest)
     (deep : 1 ≤ length (indent level)) where
@@ -256,9 +267,9 @@ module _ (edition : Edition) (t : List ℕ) (level : ℕ) (common : Option ℕ) 
       let safe : is_last cr (last_of None (b ∷ bs)) ≡ false =
       sym (ap (is_last cr) (ap (last_of None) is ∙ last_of-gap gap b bs)) ∙ plain_no_cr v plain in
       no_block_is_before_first_run edition t level tail i gap b bs (lf ∷ tail)
-      (appended_spaces_are_spaces (indent level) gap (spaces_of (4 * level)) c) s
+      (appended_spaces_are_spaces (indent level) gap (replicated_spaces_are_spaces (4 * level)) c) s
       (rest_of_run_is_run edition t level common tail rest ends deep v gap b bs is a) (rw safe refl)
-      (suffix_as (ap (λ v. indent level ++ (v ++ (lf ∷ tail))) is) l)
+      (suffix_by_equality (ap (λ v. indent level ++ (v ++ (lf ∷ tail))) is) l)
   no_block_is_before_lone_text v (elements (placeable x) es) i g a gap (b ∷ bs) is c s l =
       let brace = bytes_of_placeable_begin_with_brace level x (elements_bytes level false es (lf ∷ tail)) in
       let are =
@@ -268,18 +279,20 @@ module _ (edition : Edition) (t : List ℕ) (level : ℕ) (common : Option ℕ) 
       (no_lf_ends_run v a) ∙ ap (λ xs. indent level ++ (v ++ xs)) brace.are
       ∙ ap (λ v. indent level ++ (v ++ (123 ∷ brace.rest))) is in
       no_block_is_before_first_run edition t level tail i gap b bs (123 ∷ brace.rest)
-      (appended_spaces_are_spaces (indent level) gap (spaces_of (4 * level)) c) s
+      (appended_spaces_are_spaces (indent level) gap (replicated_spaces_are_spaces (4 * level)) c) s
       (rest_of_run_is_run edition t level common tail rest ends deep v gap b bs is a)
-      (and_with_false_is_false (is_last cr (last_of None (b ∷ bs)))) (suffix_as are l)
+      (and_with_false_is_false (is_last cr (last_of None (b ∷ bs)))) (suffix_by_equality are l)
   no_block_is_before_lone_text v (elements (text_element w) es) i g a gap more is c s l =
       absurd (no_text_follows_text_without_lf edition t level common tail rest ends deep v w es (no_lf_ends_run v a)
-      (text_more edition t level common tail rest ends deep opening v (elements (text_element w) es) g))
+      (elements_after_text_are_elements edition t level common tail rest ends deep opening v
+      (elements (text_element w) es) g))
   no_block_is_before_lone_text v no_elements i g a gap [] is c s l =
       let all : is_spaces v ≡ true = ap is_spaces (is ∙ appended_nothing_leaves_list gap) ∙ c in
       let d =
       indenting_text_is_spaces edition v no_elements
       (second_of_or_is_true (is_nonblank v) _ (text_of_spaces_is_blank v all)
-      (text_holds edition t level common tail rest ends deep opening v no_elements g)) in absurd (false≢true d.1)
+      (text_of_elements_may_occur edition t level common tail rest ends deep opening v no_elements g)) in
+      absurd (false≢true d.1)
   no_block_is_before_lone_text v (elements (placeable x) es) i g a gap [] is c s l =
       let all : is_spaces v ≡ true = ap is_spaces (is ∙ appended_nothing_leaves_list gap) ∙ c in
       let are =
@@ -289,8 +302,10 @@ module _ (edition : Edition) (t : List ℕ) (level : ℕ) (common : Option ℕ) 
       (no_lf_ends_run v a)
       ∙ sym (append_assoc (indent level) v
       (element_bytes level (placeable x) (elements_bytes level false es (lf ∷ tail)))) in
-      first_placeable edition t level tail i (indent level ++ v) x (elements_bytes level false es (lf ∷ tail))
-      (appended_spaces_are_spaces (indent level) v (spaces_of (4 * level)) all) (suffix_as are l)
+      blank_block_before_placeable_is_empty edition t level tail i (indent level ++ v) x
+      (elements_bytes level false es (lf ∷ tail))
+      (appended_spaces_are_spaces (indent level) v (replicated_spaces_are_spaces (4 * level)) all)
+      (suffix_by_equality are l)
 
   no_block_is_before_first_text_line : (v : Text) (d : ElementTree Text) (es : PatternTree Text) (body : Text) (i : ℕ) →
       are_elements edition true opening (elements (text_element v) (elements d es)) ≡ true → v ≡ body ++ (lf ∷ []) →
@@ -305,9 +320,9 @@ module _ (edition : Edition) (t : List ℕ) (level : ℕ) (common : Option ℕ) 
       let are : v ++ after ≡ (gap ++ (b ∷ bs)) ++ (lf ∷ after) =
       ap (λ v. v ++ after) (is ∙ ap (λ v. v ++ (lf ∷ [])) e) ∙ append_assoc (gap ++ (b ∷ bs)) (lf ∷ []) after in
       no_block_is_before_first_run edition t level tail i gap b bs (lf ∷ after)
-      (appended_spaces_are_spaces (indent level) gap (spaces_of (4 * level)) s) n
+      (appended_spaces_are_spaces (indent level) gap (replicated_spaces_are_spaces (4 * level)) s) n
       (rest_of_run_is_run edition t level common tail rest ends deep body gap b bs e a) (rw safe refl)
-      (suffix_as (ap (λ xs. indent level ++ xs) are) l)
+      (suffix_by_equality (ap (λ xs. indent level ++ xs) are) l)
   no_block_is_before_first_text_line v d es body i g is a c gap [] e s n l =
       let whole : v ≡ gap ++ (lf ∷ []) = is ∙ ap (λ v. v ++ (lf ∷ [])) (e ∙ appended_nothing_leaves_list gap) in
       let blank : is_nonblank v ≡ false =
@@ -315,7 +330,7 @@ module _ (edition : Edition) (t : List ℕ) (level : ℕ) (common : Option ℕ) 
       let d =
       indenting_text_is_spaces edition v (elements d es)
       (second_of_or_is_true (is_nonblank v) _ blank
-      (text_holds edition t level common tail rest ends deep opening v (elements d es) g)) in
+      (text_of_elements_may_occur edition t level common tail rest ends deep opening v (elements d es) g)) in
       absurd (false≢true (sym (ap is_spaces whole ∙ spaces_and_lf_are_not_spaces gap) ∙ d.0))
 
   -- The first line is not blank.
@@ -323,8 +338,9 @@ module _ (edition : Edition) (t : List ℕ) (level : ℕ) (common : Option ℕ) 
       are_elements edition true opening (elements e es) ≡ true →
       SuffixAt t i (elements_bytes level true (elements e es) (lf ∷ tail)) → BlankBlock t i i
   no_block_is_before_first_line (placeable x) es i g l =
-      first_placeable edition t level tail i (indent level) x (elements_bytes level false es (lf ∷ tail))
-      (spaces_of (4 * level)) l
+      blank_block_before_placeable_is_empty edition t level tail i (indent level) x
+      (elements_bytes level false es (lf ∷ tail))
+      (replicated_spaces_are_spaces (4 * level)) l
   no_block_is_before_first_line (text_element v) es i g l =
       by_form es g (text_is_run_or_run_with_lf v
       (text_element_is_text edition t level common tail rest ends deep opening v es g)) l
@@ -355,7 +371,7 @@ module _ (edition : Edition) (t : List ℕ) (level : ℕ) (tail rest : List ℕ)
       subst (λ ns. are_flush (least ns) after_line (elements e es) ≡ true) (opening_indents_as_at_line edition e es)
       (opening_flush_is_line_flush edition e es (least (line_indents edition opening (elements e es))) f) in
       let c = flush_is_chosen edition shift after_line (elements e es) flush in
-      let n = suffix_next l in
+      let n = next_of_suffix l in
       opened_reads_back edition t c.common (map (λ n. shift + n) (line_indents edition after_line (elements e es)))
       e es i
       (elements_bytes (level + 1) true (elements e es) (lf ∷ tail)) rest c.least_is l
@@ -401,18 +417,18 @@ multiline_pattern_reads_back_there edition t level e es true m a g f h deep i ta
     let parts = flush_hides_no_mark edition p a f in
     let flush =
     subst (λ s. are_flush (least (line_indents edition s p)) s p ≡ true) (marked_begins_after_placeable p a m)
-    (right_true (not (hides_mark p)) _ parts) in
+    (and_gives_right (not (hides_mark p)) _ parts) in
     marked_reads_back edition t level tail rest ends deep e es i m g flush h
-    (suffix_as (pattern_with_mark_opens_by_space level p (lf ∷ tail) a m) l)
+    (suffix_by_equality (pattern_with_mark_opens_by_space level p (lf ∷ tail) a m) l)
 multiline_pattern_reads_back_there edition t level e es false m a g f h deep i tail rest ends l =
     let p = elements e es in
     let parts = flush_hides_no_mark edition p a f in
     let flush =
     subst (λ s. are_flush (least (line_indents edition s p)) s p ≡ true) (unmarked_begins_opening p a m)
-    (right_true (not (hides_mark p)) _ parts) in
+    (and_gives_right (not (hides_mark p)) _ parts) in
     line_opened_reads_back edition t level tail rest ends deep e es i
-    (not_true_is_false (hides_mark p) (left_true (not (hides_mark p)) _ parts)) m g flush h
-    (suffix_as (pattern_without_mark_opens_by_lf level p (lf ∷ tail) a m) l)
+    (not_true_is_false (hides_mark p) (and_gives_left (not (hides_mark p)) _ parts)) m g flush h
+    (suffix_by_equality (pattern_without_mark_opens_by_lf level p (lf ∷ tail) a m) l)
 
 -- A multiline pattern is read back, if its placeables are.
 pub multiline_reads_back : (edition : Edition) (t : List ℕ) (level : ℕ) (p : PatternTree Text) → is_multiline p ≡ true →

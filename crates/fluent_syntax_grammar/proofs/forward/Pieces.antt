@@ -19,12 +19,13 @@ use Rattle.fluent_syntax_grammar.specs.Lines.{is_run_place, next_piece_at}
 use Rattle.fluent_syntax_grammar.specs.Grammar.{family}
 use Rattle.fluent_syntax_grammar.specs.Grammar as grammar
 use Rattle.fluent_syntax_grammar.specs.Written.{Text, is_last, last_of}
-use Rattle.fluent_syntax_grammar.proofs.Facts.{left_true}
-use Rattle.fluent_syntax_grammar.proofs.SuffixAt.{SuffixAt, suffix_first, suffix_next, suffix_past, suffix_has_no_eol}
+use Rattle.fluent_syntax_grammar.proofs.Facts.{and_gives_left}
+use Rattle.fluent_syntax_grammar.proofs.SuffixAt.{SuffixAt, first_of_suffix, next_of_suffix, rest_past_front}
+use Rattle.fluent_syntax_grammar.proofs.SuffixAt.{suffix_has_no_eol}
 use Rattle.fluent_syntax_grammar.proofs.forward.Reading.{Reads}
 use Rattle.fluent_syntax_grammar.proofs.forward.Spells.{Spells, nothing, last_text, spells_text, spells_placeable}
 use Rattle.fluent_syntax_grammar.proofs.forward.Runs.{is_run_byte, ends_in_cr_before, suffix_has_run}
-use Rattle.fluent_syntax_grammar.proofs.forward.Lines.{Ends, after_reads_back, reads_no_pieces, lf_cut}
+use Rattle.fluent_syntax_grammar.proofs.forward.Lines.{Ends, after_reads_back, reads_no_pieces, text_of_lf_is_cut}
 use Rattle.fluent_syntax_grammar.proofs.Tests.{and_with_false_is_false, negated_right_is_false}
 
 -- From a place within a line on, the rest of a pattern is read: the pieces of this line and its LF, and the later
@@ -75,10 +76,11 @@ pub record Run (edition : Edition) (t : List ℕ) (common : Option ℕ) (v : Tex
 
 module _ (edition : Edition) (t : List ℕ) where
   -- the end of the elements
-  pub mid_end : (common : Option ℕ) (tail rest : List ℕ) (i : ℕ) → Ends tail rest → SuffixAt t i (lf ∷ tail) →
+  pub line_end_ends_mid_line : (common : Option ℕ) (tail rest : List ℕ) (i : ℕ) → Ends tail rest →
+      SuffixAt t i (lf ∷ tail) →
       ReadsMidLine edition t common no_elements [] i rest
-  mid_end common tail rest i e l =
-      let a = after_reads_back edition t common tail rest (i + 1) e (suffix_next l) in
+  line_end_ends_mid_line common tail rest i e l =
+      let a = after_reads_back edition t common tail rest (i + 1) e (next_of_suffix l) in
       record {
         pieces = [];
         at = i;
@@ -89,7 +91,9 @@ module _ (edition : Edition) (t : List ℕ) where
         ends = l;
         reads_lines = a.reads;
         left = a.left;
-        spells = nothing (lf_cut edition t i i tail (flat_map (line_items edition common) a.lines) refl l a.blank);
+        spells =
+            nothing (text_of_lf_is_cut edition t i i tail (flat_map (line_items edition common) a.lines) refl l
+            a.blank);
         counts = a.counts;
       }
 
@@ -100,7 +104,7 @@ module _ (edition : Edition) (t : List ℕ) where
       grammar.more_pieces edition t i (Read (placed x ∷ ps) at)
   placeable_is_read_before_pieces {i = i} {j = j} x ps at l p q =
       item_and_more (chosen (subst (λ o. next_piece_at t (family edition t) o i (Read (item (placed x) tt) j))
-      (sym (suffix_first l))
+      (sym (first_of_suffix l))
       (chosen (second (suffix_has_no_eol l refl refl) (second refl (first_of refl (goes_on p given))))))) q
 
   pub placeable_reads_mid_line :
@@ -141,18 +145,19 @@ module _ (edition : Edition) (t : List ℕ) where
       let f = last_two_of_three_are_false (b == lf) (b == 123) (b == 125) e in
       let no_eol : has_eol t i ≡ false = negated_right_is_false _ (has_eol t i) (w.each i (omega arith) m) in
       item_and_more (chosen (subst (λ o. next_piece_at t (family edition t) o i (Read (item (run i j) tt) j))
-      (sym (suffix_first l))
+      (sym (first_of_suffix l))
       (chosen (second no_eol (second f.1 (second f.0
       (goes_on (goes_on at_place (goes_on (passed w) (goes_on at_place given))) given))))))) q
 
   -- a text that ends the pattern
-  pub run_end : (common : Option ℕ) (v tail rest : List ℕ) (i b : ℕ) (bs : List ℕ) → ends_plainly v ≡ true →
+  pub run_ends_at_line_end : (common : Option ℕ) (v tail rest : List ℕ) (i b : ℕ) (bs : List ℕ) →
+      ends_plainly v ≡ true →
       Ends tail rest → list_all is_run_byte (b ∷ bs) ≡ true → ends_in_cr_before (b ∷ bs) (lf ∷ tail) ≡ false →
       SuffixAt t i (b ∷ (bs ++ (lf ∷ tail))) → Run edition t common v no_elements [] i (lf ∷ tail) rest
-  run_end common v tail rest i b bs p e a c l =
+  run_ends_at_line_end common v tail rest i b bs p e a c l =
       let to = i + suc (length bs) in
-      let m : SuffixAt t to (lf ∷ tail) = suffix_past (b ∷ bs) l in
-      let r = after_reads_back edition t common tail rest (to + 1) e (suffix_next m) in
+      let m : SuffixAt t to (lf ∷ tail) = rest_past_front (b ∷ bs) l in
+      let r = after_reads_back edition t common tail rest (to + 1) e (next_of_suffix m) in
       record {
         to = to;
         pieces = [];
@@ -161,12 +166,12 @@ module _ (edition : Edition) (t : List ℕ) where
         lines = r.lines;
         end = r.end;
         reads_pieces =
-            run_is_read_before_pieces [] to (left_true (is_run_byte b) (list_all is_run_byte bs) a) l (omega arith)
+            run_is_read_before_pieces [] to (and_gives_left (is_run_byte b) (list_all is_run_byte bs) a) l (omega arith)
             (suffix_has_run t (b ∷ bs) (lf ∷ tail) i a c refl l) (reads_no_pieces edition t m);
         ends = m;
         reads_lines = r.reads;
         left = r.left;
-        spells = λ kept k. last_text k (suffix_next m) p r.blank;
+        spells = λ kept k. last_text k (next_of_suffix m) p r.blank;
         counts = r.counts;
       }
 
@@ -189,7 +194,7 @@ module _ (edition : Edition) (t : List ℕ) where
       Run edition t common v (elements (placeable e) es) numbers i (123 ∷ more) rest
   run_before_placeable_is_run common v e es numbers rest i b bs more a l k =
       let to = i + suc (length bs) in
-      let n : SuffixAt t to (123 ∷ more) = suffix_past (b ∷ bs) l in
+      let n : SuffixAt t to (123 ∷ more) = rest_past_front (b ∷ bs) l in
       let m = k to n in
       record {
         to = to;
@@ -199,7 +204,7 @@ module _ (edition : Edition) (t : List ℕ) where
         lines = m.lines;
         end = m.end;
         reads_pieces =
-            run_is_read_before_pieces m.pieces m.at (left_true (is_run_byte b) (list_all is_run_byte bs) a) l
+            run_is_read_before_pieces m.pieces m.at (and_gives_left (is_run_byte b) (list_all is_run_byte bs) a) l
             (omega arith)
             (suffix_has_run t (b ∷ bs) (123 ∷ more) i a
             (and_with_false_is_false (is_last cr (last_of None (b ∷ bs)))) refl l)
@@ -223,8 +228,8 @@ module _ (edition : Edition) (t : List ℕ) where
       Run edition t common v (elements e es) numbers i more rest
   run_at_end_of_line_is_run common v e es numbers rest i b bs more a c l k =
       let to = i + suc (length bs) in
-      let n : SuffixAt t to (lf ∷ more) = suffix_past (b ∷ bs) l in
-      let m = k (to + 1) (suffix_next n) in
+      let n : SuffixAt t to (lf ∷ more) = rest_past_front (b ∷ bs) l in
+      let m = k (to + 1) (next_of_suffix n) in
       record {
         to = to;
         pieces = [];
@@ -233,12 +238,12 @@ module _ (edition : Edition) (t : List ℕ) where
         lines = m.lines;
         end = m.end;
         reads_pieces =
-            run_is_read_before_pieces [] to (left_true (is_run_byte b) (list_all is_run_byte bs) a) l (omega arith)
+            run_is_read_before_pieces [] to (and_gives_left (is_run_byte b) (list_all is_run_byte bs) a) l (omega arith)
             (suffix_has_run t (b ∷ bs) (lf ∷ more) i a (rw c refl) refl l) (reads_no_pieces edition t n);
         ends = n;
         reads_lines = m.reads;
         left = m.left;
-        spells = λ kept x. spells_text x (suffix_next n) m.spells;
+        spells = λ kept x. spells_text x (next_of_suffix n) m.spells;
         counts = m.counts;
       }
 

@@ -19,16 +19,18 @@ use Rattle.fluent_syntax_grammar.specs.Canonical.{canonical_rules}
 use Rattle.fluent_syntax_grammar.specs.Arguments.{accessor}
 use Rattle.fluent_syntax_grammar.specs.Inline.{is_callee_byte, named_reference}
 use Rattle.fluent_syntax_grammar.specs.Grammar.{inline_expression, call_arguments}
-use Rattle.fluent_syntax_grammar.proofs.Facts.{left_true, right_true}
+use Rattle.fluent_syntax_grammar.proofs.Facts.{and_gives_left, and_gives_right}
 use Rattle.fluent_syntax_grammar.proofs.SuffixAt.{SuffixAt, first}
-use Rattle.fluent_syntax_grammar.proofs.forward.Reading.{Reads, reads_bind, reads_yields, passes_then, reads_peek}
-use Rattle.fluent_syntax_grammar.proofs.forward.Reading.{reads_first, passes_token}
-use Rattle.fluent_syntax_grammar.proofs.forward.Words.{reads_name}
+use Rattle.fluent_syntax_grammar.proofs.forward.Reading.{Reads, reads_bind, yields_reads_its_view, passes_then}
+use Rattle.fluent_syntax_grammar.proofs.forward.Reading.{reads_peek}
+use Rattle.fluent_syntax_grammar.proofs.forward.Reading.{first_branch_reads, token_passes_its_byte}
+use Rattle.fluent_syntax_grammar.proofs.forward.Words.{identifier_reads_back}
 use Rattle.fluent_syntax_grammar.proofs.marks.WrittenBytes.{attribute_bytes, maybe_bytes}
-use Rattle.fluent_syntax_grammar.proofs.forward.Inline.{Follows, starts_with, name_start, string_reads_back}
+use Rattle.fluent_syntax_grammar.proofs.forward.Inline.{Follows, inline_start_is_that_of_bytes, name_starts_with_letter}
+use Rattle.fluent_syntax_grammar.proofs.forward.Inline.{string_reads_back}
 use Rattle.fluent_syntax_grammar.proofs.forward.Inline.{variable_reads_back, number_reads_back, message_name_reads_back}
 use Rattle.fluent_syntax_grammar.proofs.forward.Inline.{message_attribute_reads_back}
-use Rattle.fluent_syntax_grammar.proofs.forward.Inline.{no_arguments_are_read_without_list, no_accessor}
+use Rattle.fluent_syntax_grammar.proofs.forward.Inline.{no_arguments_are_read_without_list, no_accessor_without_dot}
 use Rattle.fluent_syntax_grammar.proofs.forward.Inline.{accessor_is_read_after_point}
 use Rattle.fluent_syntax_grammar.proofs.forward.Arguments.{InlineReadsBack, ArgumentListReadsBack, call_reads_back}
 
@@ -78,15 +80,16 @@ module _ (edition : Edition) (t : List ℕ) where
   message_reference_reads_back level id None h =
       record {
         obeys = h;
-        back = λ i gap more f l. message_name_reads_back edition t i level id gap more (left_true (is_name id) _ h) f l;
+        back = λ i gap more f l. message_name_reads_back edition t i level id gap more (and_gives_left (is_name id) _ h)
+            f l;
       }
   message_reference_reads_back level id (Some a) h =
       record {
         obeys = h;
         back =
             λ i gap more f l.
-            message_attribute_reads_back edition t i level id a gap more (left_true (is_name id) _ h)
-            (right_true (is_name id) (is_name a) h) f l;
+            message_attribute_reads_back edition t i level id a gap more (and_gives_left (is_name id) _ h)
+            (and_gives_right (is_name id) (is_name a) h) f l;
       }
 
   -- ---- functions
@@ -98,7 +101,7 @@ module _ (edition : Edition) (t : List ℕ) where
       Reads t (named_reference t id v) (inline_map (bytes_at t)) i (function_reference name x) left
   function_reference_reads_after_its_name id name x i left no_arguments e f g l = absurd cc
   function_reference_reads_after_its_name id name x i left (some_arguments a) e f g l =
-      reads_first (ap (list_all is_callee_byte) e ∙ g) (reads_yields (cc) l)
+      first_branch_reads (ap (list_all is_callee_byte) e ∙ g) (yields_reads_its_view (cc) l)
 
   pub function_reference_reads_back : (level : ℕ) (id : Text) (ps : InlineTrees Text) (ns : NamedTrees Text) →
       inline_obeys (canonical_rules edition) (function_reference id (arguments ps ns)) ≡ true →
@@ -107,12 +110,12 @@ module _ (edition : Edition) (t : List ℕ) where
   function_reference_reads_back level id ps ns h more = record {
     obeys = h;
     back = λ i gap rest f l.
-        let is : is_name id ≡ true = left_true (is_name id) _ h in
-        reads_peek letter (name_start edition t i id _ is l)
-        (reads_bind (reads_name id _ is refl l)
+        let is : is_name id ≡ true = and_gives_left (is_name id) _ h in
+        reads_peek letter (name_starts_with_letter edition t i id _ is l)
+        (reads_bind (identifier_reads_back id _ is refl l)
         (λ s j g m. reads_bind (call_reads_back edition t level ps ns more j (gap ++ rest) m) (λ a k x n.
         function_reference_reads_after_its_name s id (arguments ps ns) k (gap ++ rest) a g x
-        (left_true (list_all is_callee_byte id) _ (right_true (is_name id) _ h)) n)));
+        (and_gives_left (list_all is_callee_byte id) _ (and_gives_right (is_name id) _ h)) n)));
   }
 
   -- ---- terms
@@ -131,14 +134,15 @@ module _ (edition : Edition) (t : List ℕ) where
       SuffixAt t i (45 ∷ (id ++ more)) → start t i ≡ term
   term_starts_with_hyphen_and_letter i [] more e l = absurd cc
   term_starts_with_hyphen_and_letter i (b ∷ bs) more e l =
-      starts_with term (rw (left_true (is_letter b) (list_all is_name_byte bs) e) refl) l
+      inline_start_is_that_of_bytes term (rw (and_gives_left (is_letter b) (list_all is_name_byte bs) e) refl) l
 
   -- the attribute of a term, if it has one, before its arguments
   accessor_reads_back : (level : ℕ) (attribute : Option Text) (a : MaybeArguments Text) (i : ℕ) (gap more : List ℕ) →
       option_obeys is_name attribute ≡ true → Follows gap more →
       SuffixAt t i (attribute_bytes attribute (maybe_bytes level a (gap ++ more))) →
       Reads t (accessor t) (option_texts (bytes_at t)) i attribute (maybe_bytes level a (gap ++ more))
-  accessor_reads_back level None a i gap more e f l = no_accessor edition t i _ (no_point_is_first level a gap more f) l
+  accessor_reads_back level None a i gap more e f l =
+      no_accessor_without_dot edition t i _ (no_point_is_first level a gap more f) l
   accessor_reads_back level (Some x) a i gap more e f l =
       accessor_is_read_after_point edition t i x _ e (arguments_begin_no_name level a gap more f) l
 
@@ -157,14 +161,15 @@ module _ (edition : Edition) (t : List ℕ) where
       Reads t (inline_expression edition t) (inline_map (bytes_at t)) i (term_reference id attribute a)
       (bytes_after_arguments a gap more)
   term_reference_reads_back_there level id attribute a i gap more h b f l =
-      let is : is_name id ≡ true = left_true (is_name id) _ h in
+      let is : is_name id ≡ true = and_gives_left (is_name id) _ h in
       let accessor_is : option_obeys is_name attribute ≡ true =
-      left_true (option_obeys is_name attribute) _ (right_true (is_name id) _ h) in
+      and_gives_left (option_obeys is_name attribute) _ (and_gives_right (is_name id) _ h) in
       reads_peek term (term_starts_with_hyphen_and_letter i id _ is l)
-      (passes_then (passes_token 45 refl l)
-      (λ j m. reads_bind (reads_name id _ is (accessor_begins_no_name level attribute a gap more f) m) (λ s k g n.
+      (passes_then (token_passes_its_byte 45 refl l)
+      (λ j m. reads_bind (identifier_reads_back id _ is (accessor_begins_no_name level attribute a gap more f) m)
+      (λ s k g n.
       reads_bind (accessor_reads_back level attribute a k gap more accessor_is f n)
-      (λ x p d o. reads_bind (b.back p gap more f o) (λ y q w r. reads_yields (cc) r)))))
+      (λ x p d o. reads_bind (b.back p gap more f o) (λ y q w r. yields_reads_its_view (cc) r)))))
 
   pub term_reference_reads_back : (level : ℕ) (id : Text) (attribute : Option Text) (a : MaybeArguments Text) →
       inline_obeys (canonical_rules edition) (term_reference id attribute a) ≡ true →

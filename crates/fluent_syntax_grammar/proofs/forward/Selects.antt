@@ -19,25 +19,32 @@ use Rattle.fluent_syntax_grammar.specs.Expressions.{arrow_line_end, has_arrow, s
 use Rattle.fluent_syntax_grammar.specs.Variants.{is_number_start, variant_key, variants_end, variant_of, variant_after}
 use Rattle.fluent_syntax_grammar.specs.Grammar as grammar
 use Rattle.fluent_syntax_grammar.specs.Grammar.{family}
-use Rattle.fluent_syntax_grammar.proofs.Facts.{left_true, right_true, equal, equal_somes_have_equal_items}
-use Rattle.fluent_syntax_grammar.proofs.Tests.{both_true, or_cases, differ}
-use Rattle.fluent_syntax_grammar.proofs.SuffixAt.{SuffixAt, suffix_as, suffix_first, suffix_next, suffix_has}
-use Rattle.fluent_syntax_grammar.proofs.forward.Reading.{Reads, Passes, reads_bind, reads_yields, passes_nothing}
-use Rattle.fluent_syntax_grammar.proofs.forward.Reading.{passes_then, passes_over, reads_peek, look_reads_what_follows}
-use Rattle.fluent_syntax_grammar.proofs.forward.Reading.{reads_first}
-use Rattle.fluent_syntax_grammar.proofs.forward.Reading.{reads_second, present_byte_is_read, more_map}
+use Rattle.fluent_syntax_grammar.proofs.Facts.{and_gives_left, and_gives_right, same_by_test}
+use Rattle.fluent_syntax_grammar.proofs.Facts.{equal_somes_have_equal_items}
+use Rattle.fluent_syntax_grammar.proofs.Tests.{true_and_true, or_has_true_side, parted_by_test}
+use Rattle.fluent_syntax_grammar.proofs.SuffixAt.{SuffixAt, suffix_by_equality, first_of_suffix, next_of_suffix}
+use Rattle.fluent_syntax_grammar.proofs.SuffixAt.{test_of_suffix}
+use Rattle.fluent_syntax_grammar.proofs.forward.Reading.{Reads, Passes, reads_bind, yields_reads_its_view}
+use Rattle.fluent_syntax_grammar.proofs.forward.Reading.{yields_passes_nothing}
+use Rattle.fluent_syntax_grammar.proofs.forward.Reading.{passes_then, skip_passes_over_relation, reads_peek}
+use Rattle.fluent_syntax_grammar.proofs.forward.Reading.{look_reads_what_follows}
+use Rattle.fluent_syntax_grammar.proofs.forward.Reading.{first_branch_reads}
+use Rattle.fluent_syntax_grammar.proofs.forward.Reading.{second_branch_reads, present_byte_is_read, more_map}
 use Rattle.fluent_syntax_grammar.proofs.forward.Reading.{list_reads_its_end, list_reads_item_and_rest}
-use Rattle.fluent_syntax_grammar.proofs.forward.Reading.{reads_absent, passes_token, two_bytes_pass}
+use Rattle.fluent_syntax_grammar.proofs.forward.Reading.{optional_reads_that_byte_is_absent, token_passes_its_byte}
+use Rattle.fluent_syntax_grammar.proofs.forward.Reading.{two_bytes_pass}
 use Rattle.fluent_syntax_grammar.proofs.forward.Reading.{passes_inline_blank}
-use Rattle.fluent_syntax_grammar.proofs.forward.Words.{reads_name, number_reads_back_its_bytes}
+use Rattle.fluent_syntax_grammar.proofs.forward.Words.{identifier_reads_back, number_reads_back_its_bytes}
 use Rattle.fluent_syntax_grammar.proofs.marks.WrittenBytes.{inline_bytes, variants_bytes, pattern_bytes}
 use Rattle.fluent_syntax_grammar.proofs.forward.Inline.{Follows, passes_blanks, letter_is_no_digit}
-use Rattle.fluent_syntax_grammar.proofs.forward.Arguments.{Begins, InlineReadsBack, inline_begins, name_begins_inline}
-use Rattle.fluent_syntax_grammar.proofs.forward.Arguments.{number_begins_inline, begins_other}
+use Rattle.fluent_syntax_grammar.proofs.forward.Arguments.{Begins, InlineReadsBack, canonical_inline_begins_inline}
+use Rattle.fluent_syntax_grammar.proofs.forward.Arguments.{name_begins_inline}
+use Rattle.fluent_syntax_grammar.proofs.forward.Arguments.{number_begins_inline, beginning_of_inline_is_no_other_byte}
 use Rattle.fluent_syntax_grammar.proofs.forward.Expressions.{ExpressionReadsBack, gap_after_inline_is_passed}
 use Rattle.fluent_syntax_grammar.proofs.forward.Expressions.{map_keeps_fault}
 use Rattle.fluent_syntax_grammar.proofs.forward.Expressions.{spaces_are_blank}
-use Rattle.fluent_syntax_grammar.proofs.forward.Lines.{lf_after, stop, EndsPattern, column, indented, is_mark_byte}
+use Rattle.fluent_syntax_grammar.proofs.forward.Lines.{line_end_at_lf_is_one_byte, stop, EndsPattern, column, indented}
+use Rattle.fluent_syntax_grammar.proofs.forward.Lines.{is_mark_byte}
 use Rattle.fluent_syntax_grammar.proofs.forward.Lines.{is_column_byte}
 use Rattle.fluent_syntax_grammar.proofs.forward.Entries.{PatternReadsBack}
 use Rattle.fluent_syntax_grammar.proofs.Tests.{and_with_false_is_false, true_by_left, true_by_right}
@@ -47,20 +54,20 @@ mark_ends_pattern : (gap : List ℕ) (b : ℕ) (bs : List ℕ) → list_all is_s
     is_column_byte b ≡ true → EndsPattern (gap ++ (b ∷ bs))
 mark_ends_pattern [] b bs a e f = column f
 mark_ends_pattern (x ∷ gap) b bs a e f =
-    let s : x ≡ space = equal x space (left_true (is_space x) (list_all is_space gap) a) in
+    let s : x ≡ space = same_by_test x space (and_gives_left (is_space x) (list_all is_space gap) a) in
     subst (λ x. EndsPattern (x ∷ (gap ++ (b ∷ bs)))) (sym s)
-    (indented gap b bs (right_true (is_space x) (list_all is_space gap) a) e)
+    (indented gap b bs (and_gives_right (is_space x) (list_all is_space gap) a) e)
 
-pub spaces_of : (n : ℕ) → list_all is_space (replicate n space) ≡ true
-spaces_of zero = refl
-spaces_of (suc n) = spaces_of n
+pub replicated_spaces_are_spaces : (n : ℕ) → list_all is_space (replicate n space) ≡ true
+replicated_spaces_are_spaces zero = refl
+replicated_spaces_are_spaces (suc n) = replicated_spaces_are_spaces n
 
 pub appended_spaces_are_spaces : (xs ys : List ℕ) → list_all is_space xs ≡ true → list_all is_space ys ≡ true →
     list_all is_space (xs ++ ys) ≡ true
 appended_spaces_are_spaces [] ys e f = f
 appended_spaces_are_spaces (x ∷ xs) ys e f =
-    both_true (left_true (is_space x) (list_all is_space xs) e)
-    (appended_spaces_are_spaces xs ys (right_true (is_space x) (list_all is_space xs) e) f)
+    true_and_true (and_gives_left (is_space x) (list_all is_space xs) e)
+    (appended_spaces_are_spaces xs ys (and_gives_right (is_space x) (list_all is_space xs) e) f)
 
 -- the variants from the first one's mark on
 abbrev pub bare_bytes : ℕ → VariantTrees Text → (close more : Text) → Text
@@ -74,9 +81,9 @@ variants_end_pattern : (level : ℕ) (vs : VariantTrees Text) (close more : Text
     EndsPattern (variants_bytes level vs (close ++ (125 ∷ more)))
 variants_end_pattern level no_variants close more a = mark_ends_pattern close 125 more a refl refl
 variants_end_pattern level (variants (variant key value true) vs) close more a =
-    mark_ends_pattern (star_indent level) 42 _ (spaces_of (4 * level - 1)) refl refl
+    mark_ends_pattern (star_indent level) 42 _ (replicated_spaces_are_spaces (4 * level - 1)) refl refl
 variants_end_pattern level (variants (variant key value false) vs) close more a =
-    mark_ends_pattern (indent level) 91 _ (spaces_of (4 * level)) refl refl
+    mark_ends_pattern (indent level) 91 _ (replicated_spaces_are_spaces (4 * level)) refl refl
 
 -- The rest of a list of variants is read back; the flag says whether there was a default before.
 pub record VariantsReadBack (edition : Edition) (t : List ℕ) (level : ℕ) (starred : Bool) (vs : VariantTrees Text) :
@@ -97,10 +104,12 @@ module _ (edition : Edition) (t : List ℕ) where
   indent_of_variants_is_passed level no_variants close more i a l =
       passes_blanks close (125 ∷ more) (spaces_are_blank close a) refl refl refl l
   indent_of_variants_is_passed level (variants (variant key value true) vs) close more i a l =
-      passes_blanks (star_indent level) _ (spaces_are_blank (star_indent level) (spaces_of (4 * level - 1))) refl refl
+      passes_blanks (star_indent level) _
+      (spaces_are_blank (star_indent level) (replicated_spaces_are_spaces (4 * level - 1))) refl refl
       refl l
   indent_of_variants_is_passed level (variants (variant key value false) vs) close more i a l =
-      passes_blanks (indent level) _ (spaces_are_blank (indent level) (spaces_of (4 * level))) refl refl refl l
+      passes_blanks (indent level) _ (spaces_are_blank (indent level) (replicated_spaces_are_spaces (4 * level))) refl
+      refl refl l
 
   -- what an item says
   abbrev said : More (VariantTree Span) Bool → More (VariantTree Text) Bool
@@ -124,17 +133,17 @@ module _ (edition : Edition) (t : List ℕ) where
         back =
             λ i close more a l.
             list_reads_its_end {f = variant_map (bytes_at t)} {g = λ b. b}
-            (reads_bind (reads_absent 42 refl l)
+            (reads_bind (optional_reads_that_byte_is_absent 42 refl l)
             (λ b j e m. rw e
-            (passes_then (reads_second refl (passes_nothing m))
-            (λ k n. reads_bind (reads_absent 91 refl n)
-            (λ c p f o. rw f (reads_second refl (ends_with edition o))))))) refl;
+            (passes_then (second_branch_reads refl (yields_passes_nothing m))
+            (λ k n. reads_bind (optional_reads_that_byte_is_absent 91 refl n)
+            (λ c p f o. rw f (second_branch_reads refl (ends_with edition o))))))) refl;
       }
     where
       ends_with : (d : Edition) {p : ℕ} {left : List ℕ} → SuffixAt t p left →
           Reads t (variants_end d true false) said p no_item left
-      ends_with One o = reads_first refl (reads_yields refl o)
-      ends_with Two o = reads_first refl (reads_yields refl o)
+      ends_with One o = first_branch_reads refl (yields_reads_its_view refl o)
+      ends_with Two o = first_branch_reads refl (yields_reads_its_view refl o)
 
   -- a key before its bracket
   key_reads_back : (key : KeyTree Text) (i : ℕ) (tail : Text) → key_obeys' key ≡ true →
@@ -142,23 +151,24 @@ module _ (edition : Edition) (t : List ℕ) where
   key_reads_back (name_key []) i tail e l = absurd cc
   key_reads_back (name_key (b ∷ bs)) i tail e l =
       reads_peek false
-      (suffix_has is_number_start l ∙ no_number b (left_true (is_letter b) (list_all is_name_byte bs) e))
-      (reads_second refl
-      (reads_bind (reads_name (b ∷ bs) (93 ∷ tail) e refl l) (λ s j f m. reads_yields (ap name_key f) m)))
+      (test_of_suffix is_number_start l ∙ no_number b (and_gives_left (is_letter b) (list_all is_name_byte bs) e))
+      (second_branch_reads refl
+      (reads_bind (identifier_reads_back (b ∷ bs) (93 ∷ tail) e refl l)
+      (λ s j f m. yields_reads_its_view (ap name_key f) m)))
     where
       no_number : (b : ℕ) → is_letter b ≡ true → is_number_start b ≡ false
-      no_number b e = rw (letter_is_no_digit b e, differ is_letter b 45 e refl) refl
+      no_number b e = rw (letter_is_no_digit b e, parted_by_test is_letter b 45 e refl) refl
   key_reads_back (number_key []) i tail e l = absurd cc
   key_reads_back (number_key (b ∷ bs)) i tail e l =
-      reads_peek true (suffix_has is_number_start l ∙ starts_number b bs e)
-      (reads_first refl
+      reads_peek true (test_of_suffix is_number_start l ∙ starts_number b bs e)
+      (first_branch_reads refl
       (reads_bind (number_reads_back_its_bytes (b ∷ bs) (93 ∷ tail) e refl refl l)
-      (λ s j f m. reads_yields (ap number_key f) m)))
+      (λ s j f m. yields_reads_its_view (ap number_key f) m)))
     where
       starts_number : (b : ℕ) (bs : List ℕ) → is_number (b ∷ bs) ≡ true → is_number_start b ≡ true
-      starts_number b bs e = elim (or_cases (b == 45 && is_unsigned bs) (is_unsigned (b ∷ bs)) e) [
-        | inl f ↦ true_by_right (is_digit b) (b == 45) (left_true (b == 45) (is_unsigned bs) f)
-        | inr f ↦ true_by_left (is_digit b) (b == 45) (left_true (is_digit b) (is_number_rest bs) f)
+      starts_number b bs e = elim (or_has_true_side (b == 45 && is_unsigned bs) (is_unsigned (b ∷ bs)) e) [
+        | inl f ↦ true_by_right (is_digit b) (b == 45) (and_gives_left (b == 45) (is_unsigned bs) f)
+        | inr f ↦ true_by_left (is_digit b) (b == 45) (and_gives_left (is_digit b) (is_number_rest bs) f)
       ]
 
   bytes_of_key_begin_inline : (key : KeyTree Text) (tail : Text) → key_obeys' key ≡ true → Begins (key_text key ++ tail)
@@ -177,7 +187,7 @@ module _ (edition : Edition) (t : List ℕ) where
   variant_is_read_after_its_value level starred star key value vs k None i close more a e f l = absurd cc
   variant_is_read_after_its_value level starred star key value vs k (Some v) i close more a e f l =
       passes_then (indent_of_variants_is_passed level vs close more i a l)
-      (λ j m. reads_yields (same_variant k v e (equal_somes_have_equal_items f)) m)
+      (λ j m. yields_reads_its_view (same_variant k v e (equal_somes_have_equal_items f)) m)
     where
       same_variant : (k : KeyTree Span) (v : PatternTree Span) → key_map (bytes_at t) k ≡ key →
           pattern_map (bytes_at t) v ≡ value →
@@ -197,9 +207,12 @@ module _ (edition : Edition) (t : List ℕ) where
       let b =
       bytes_of_key_begin_inline key
       (93 ∷ pattern_bytes level value (lf ∷ variants_bytes level vs (close ++ (125 ∷ more)))) o in
-      passes_then (passes_blanks [] _ refl (begins_other 32 b refl) (begins_other lf b refl) (begins_other cr b refl) l)
+      passes_then
+      (passes_blanks [] _ refl (beginning_of_inline_is_no_other_byte 32 b refl)
+      (beginning_of_inline_is_no_other_byte lf b refl) (beginning_of_inline_is_no_other_byte cr b refl) l)
       (λ j m. reads_bind (key_reads_back key j _ o m) (λ k q e n.
-      passes_then (passes_blanks [] _ refl refl refl refl n) (λ r x. passes_then (passes_token 93 refl x) (λ y z.
+      passes_then (passes_blanks [] _ refl refl refl refl n)
+      (λ r x. passes_then (token_passes_its_byte 93 refl x) (λ y z.
       reads_bind (p.back y (variants_bytes level vs (close ++ (125 ∷ more)))
       (variants_bytes level vs (close ++ (125 ∷ more))) (stop (variants_end_pattern level vs close more a)) z)
       (λ v w f u. variant_is_read_after_its_value level starred star key value vs k v w close more a e f u)))))
@@ -211,12 +224,13 @@ module _ (edition : Edition) (t : List ℕ) where
       VariantsReadBack edition t level starred (variants (variant key value false) vs)
   variant_reads_back level starred key value vs o p h = record {
     back = λ i close more a l. list_reads_item_and_rest {c = variant key value false} {q = starred || false}
-        (reads_bind (reads_absent 42 refl l)
+        (reads_bind (optional_reads_that_byte_is_absent 42 refl l)
         (λ b j e m. rw e
-        (passes_then (reads_second (and_with_false_is_false starred) (passes_nothing m))
+        (passes_then (second_branch_reads (and_with_false_is_false starred) (yields_passes_nothing m))
         (λ k n. reads_bind (present_byte_is_read 91 refl n)
         (λ c q f x. rw f
-        (reads_first refl (variant_reads_back_from_bracket level starred false key value vs q close more a o p x)))))))
+        (first_branch_reads refl
+        (variant_reads_back_from_bracket level starred false key value vs q close more a o p x)))))))
         (λ q j e m.
         (variants_read_back_with_equal_star level starred vs q (e ∙ or_false starred) h).back j close more a m)
         (λ v ws f g. added_variant_spells_its_tree v ws (variant key value false) vs f g);
@@ -234,10 +248,11 @@ module _ (edition : Edition) (t : List ℕ) where
     back = λ i close more a l. list_reads_item_and_rest {c = variant key value true} {q = true}
         (reads_bind (present_byte_is_read 42 refl l)
         (λ b j e m. rw e
-        (passes_then (reads_second refl (passes_nothing m))
+        (passes_then (second_branch_reads refl (yields_passes_nothing m))
         (λ k n. reads_bind (present_byte_is_read 91 refl n)
         (λ c q f x. rw f
-        (reads_first refl (variant_reads_back_from_bracket level false true key value vs q close more a o p x)))))))
+        (first_branch_reads refl
+        (variant_reads_back_from_bracket level false true key value vs q close more a o p x)))))))
         (λ q j e m. (variants_read_back_with_equal_star level true vs q e h).back j close more a m)
         (λ v ws f g. added_variant_spells_its_tree v ws (variant key value true) vs f g);
   }
@@ -245,7 +260,7 @@ module _ (edition : Edition) (t : List ℕ) where
   -- ---- the select
 
   arrow_is_at_its_bytes : (i : ℕ) (more : List ℕ) → SuffixAt t i (45 ∷ 62 ∷ more) → has_arrow t i ≡ true
-  arrow_is_at_its_bytes i more l = rw (suffix_first l, suffix_first (suffix_next l)) refl
+  arrow_is_at_its_bytes i more l = rw (first_of_suffix l, first_of_suffix (next_of_suffix l)) refl
 
   arrow_follows_space : (more : List ℕ) → Follows (32 ∷ []) (45 ∷ 62 ∷ more)
   arrow_follows_space more =
@@ -283,13 +298,13 @@ module _ (edition : Edition) (t : List ℕ) where
       (λ j m. passes_then (passes_inline_blank [] _ refl refl m)
       (λ k n. passes_then (line_end_passes k n)
       (λ p o. passes_then (indent_of_variants_is_passed (level + 1) vs close more p a o)
-      (λ q x. h.back q close more a x))))) (λ ws y d z. reads_yields (same_select ws d) z))
+      (λ q x. h.back q close more a x))))) (λ ws y d z. yields_reads_its_view (same_select ws d) z))
     where
       line_end_passes : {bs : List ℕ} (k : ℕ) → SuffixAt t k (lf ∷ bs) →
           Passes t (peek (after_eol t) arrow_line_end) k bs
       line_end_passes k n =
-          reads_peek (Some (k + 1)) (lf_after edition t n)
-          (passes_over {j = k + 1} (record { there = refl }) (suffix_next n))
+          reads_peek (Some (k + 1)) (line_end_at_lf_is_one_byte edition t n)
+          (skip_passes_over_relation {j = k + 1} (record { there = refl }) (next_of_suffix n))
 
       same_select : (ws : VariantTrees Span) → variants_map (bytes_at t) ws ≡ vs →
           expression_map (bytes_at t) (select v ws) ≡ select e vs
@@ -300,17 +315,17 @@ module _ (edition : Edition) (t : List ℕ) where
       InlineReadsBack edition t level e → VariantsReadBack edition t (level + 1) false vs →
       ExpressionReadsBack edition t level (select e vs)
   select_reads_back level e vs g h k = record {
-    begins = λ tail. inline_begins edition level e _ h.obeys;
+    begins = λ tail. canonical_inline_begins_inline edition level e _ h.obeys;
     back = λ i gap more a l.
         let close = indent level ++ gap in
         let spaces : list_all is_space close ≡ true =
-        appended_spaces_are_spaces (indent level) gap (spaces_of (4 * level)) a in
+        appended_spaces_are_spaces (indent level) gap (replicated_spaces_are_spaces (4 * level)) a in
         let m =
-        suffix_as (ap (λ x. inline_bytes level e (32 ∷ 45 ∷ 62 ∷ lf ∷ variants_bytes (level + 1) vs x))
+        suffix_by_equality (ap (λ x. inline_bytes level e (32 ∷ 45 ∷ 62 ∷ lf ∷ variants_bytes (level + 1) vs x))
         (sym (append_assoc (indent level) gap (125 ∷ more)))) l in
         reads_bind (h.back i (32 ∷ []) (45 ∷ 62 ∷ lf ∷ variants_bytes (level + 1) vs (close ++ (125 ∷ more)))
         (arrow_follows_space _) m) (λ v j f n.
         passes_then (gap_after_inline_is_passed edition t e (32 ∷ []) _ j (arrow_follows_space _) n)
         (λ p o. look_reads_what_follows true (arrow_is_at_its_bytes p _ o)
-        (reads_first refl (select_reads_back_from_arrow level e vs v p close more spaces f g k o))));
+        (first_branch_reads refl (select_reads_back_from_arrow level e vs v p close more spaces f g k o))));
   }

@@ -11,13 +11,15 @@ use Rattle.fluent_syntax_grammar.specs.Construct.{Read, ◌>>◌, skip}
 use Rattle.fluent_syntax_grammar.specs.Strings.{HexDigits, hex_digits, all_there, escaped, string_unit, string_units}
 use Rattle.fluent_syntax_grammar.specs.Strings.{before_quote, unit_and_more, string_literal}
 use Rattle.fluent_syntax_grammar.specs.Spellings.{is_units, is_escape, is_string}
-use Rattle.fluent_syntax_grammar.proofs.Facts.{left_true, right_true, equal}
-use Rattle.fluent_syntax_grammar.proofs.Tests.{both_true, or_cases}
-use Rattle.fluent_syntax_grammar.proofs.SuffixAt.{SuffixAt, suffix_as, suffix_first, suffix_next, suffix_past}
-use Rattle.fluent_syntax_grammar.proofs.SuffixAt.{suffix_has, each_place_of_prefix_is_in_set}
-use Rattle.fluent_syntax_grammar.proofs.forward.Reading.{Reads, Passes, reads_bind, reads_yields, passes_then}
-use Rattle.fluent_syntax_grammar.proofs.forward.Reading.{reads_here, reads_peek, reads_first, reads_second}
-use Rattle.fluent_syntax_grammar.proofs.forward.Reading.{one_byte_passes, two_bytes_pass, passes_token}
+use Rattle.fluent_syntax_grammar.proofs.Facts.{and_gives_left, and_gives_right, same_by_test}
+use Rattle.fluent_syntax_grammar.proofs.Tests.{true_and_true, or_has_true_side}
+use Rattle.fluent_syntax_grammar.proofs.SuffixAt.{SuffixAt, suffix_by_equality, first_of_suffix, next_of_suffix}
+use Rattle.fluent_syntax_grammar.proofs.SuffixAt.{rest_past_front}
+use Rattle.fluent_syntax_grammar.proofs.SuffixAt.{test_of_suffix, each_place_of_prefix_is_in_set}
+use Rattle.fluent_syntax_grammar.proofs.forward.Reading.{Reads, Passes, reads_bind, yields_reads_its_view, passes_then}
+use Rattle.fluent_syntax_grammar.proofs.forward.Reading.{here_reads_as_part_at_place, reads_peek, first_branch_reads}
+use Rattle.fluent_syntax_grammar.proofs.forward.Reading.{second_branch_reads}
+use Rattle.fluent_syntax_grammar.proofs.forward.Reading.{one_byte_passes, two_bytes_pass, token_passes_its_byte}
 use Rattle.fluent_syntax_grammar.proofs.forward.Reading.{span_reads_its_bytes}
 
 -- hexadecimal digits, so many, and units after them
@@ -33,13 +35,13 @@ units_begin_with_hex : (n : ℕ) (v : List ℕ) → is_units n v ≡ true → He
 units_begin_with_hex zero v e = record { hex = []; more = v; joins = refl; count = refl; digits = refl; units = e }
 units_begin_with_hex (suc n) [] e = cc
 units_begin_with_hex (suc n) (b ∷ bs) e =
-    let r = units_begin_with_hex n bs (right_true (is_ascii_hexdigit b) (is_units n bs) e) in
+    let r = units_begin_with_hex n bs (and_gives_right (is_ascii_hexdigit b) (is_units n bs) e) in
     record {
       hex = b ∷ r.hex;
       more = r.more;
       joins = ap (λ v. b ∷ v) r.joins;
       count = ap suc r.count;
-      digits = both_true (left_true (is_ascii_hexdigit b) (is_units n bs) e) r.digits;
+      digits = true_and_true (and_gives_left (is_ascii_hexdigit b) (is_units n bs) e) r.digits;
       units = r.units;
     }
 
@@ -70,7 +72,7 @@ module _ {t : List ℕ} where
         end = i + length hex;
         reads = all_there d (ap (λ n. i + n) e);
         spells = refl;
-        rest = suffix_past hex l;
+        rest = rest_past_front hex l;
       }
 
   -- a unit, and units after it
@@ -83,33 +85,33 @@ module _ {t : List ℕ} where
         value = tt;
         end = n.end;
         reads =
-            unit_and_more (suffix_has (λ c. c == 34) l ∙ e)
-            (subst (λ o. string_unit t o i (Read tt m.end)) (sym (suffix_first l)) m.reads) n.reads;
+            unit_and_more (test_of_suffix (λ c. c == 34) l ∙ e)
+            (subst (λ o. string_unit t o i (Read tt m.end)) (sym (first_of_suffix l)) m.reads) n.reads;
         spells = refl;
         rest = n.rest;
       }
 
   plain_byte_is_passed_as_unit : {i b : ℕ} {bs : List ℕ} → (b == lf) ≡ false → (b == 92) ≡ false →
       SuffixAt t i (b ∷ bs) → Passes t (string_unit t (Some b)) i bs
-  plain_byte_is_passed_as_unit e f l = reads_second e (reads_second f (one_byte_passes l))
+  plain_byte_is_passed_as_unit e f l = second_branch_reads e (second_branch_reads f (one_byte_passes l))
 
   escape_is_passed_as_unit : {i b c : ℕ} {bs left : List ℕ} → b ≡ 92 → SuffixAt t i (b ∷ c ∷ bs) →
       Passes t (escaped t (Some c)) i left → Passes t (string_unit t (Some b)) i left
   escape_is_passed_as_unit {c = c} e l m =
-      reads_second (ap (λ b. b == lf) e)
-      (reads_first (ap (λ b. b == 92) e) (reads_peek (Some c) (suffix_first (suffix_next l)) m))
+      second_branch_reads (ap (λ b. b == lf) e)
+      (first_branch_reads (ap (λ b. b == 92) e) (reads_peek (Some c) (first_of_suffix (next_of_suffix l)) m))
 
   hex_escape_is_passed_as_unit : {i b c : ℕ} {bs : List ℕ} (left : List ℕ) (n : ℕ) (r : HexThen n bs) →
       SuffixAt t i (b ∷ c ∷ (bs ++ left)) → Passes t (skip (Steps 2) >> hex_digits t n) i (r.more ++ left)
   hex_escape_is_passed_as_unit left n r l =
       passes_then (two_bytes_pass l)
       (λ j m. hex_digits_are_passed n r.hex (r.more ++ left) r.count r.digits
-      (suffix_as (ap (λ v. v ++ left) (sym r.joins) ∙ append_assoc r.hex r.more left) m))
+      (suffix_by_equality (ap (λ v. v ++ left) (sym r.joins) ∙ append_assoc r.hex r.more left) m))
 
   string_units_stop_at_quote : {i : ℕ} {more : List ℕ} → SuffixAt t i (34 ∷ more) →
       Passes t (string_units t) i (34 ∷ more)
   string_units_stop_at_quote {i = i} l =
-      record { value = tt; end = i; reads = before_quote (suffix_has (λ c. c == 34) l); spells = refl; rest = l }
+      record { value = tt; end = i; reads = before_quote (test_of_suffix (λ c. c == 34) l); spells = refl; rest = l }
 
   -- an escape with hexadecimal digits, and units after it
   hex_escape_then : (m n : ℕ) → UnitsPass t m → (b c : ℕ) (cs more : List ℕ) (i : ℕ) → length cs ≤ m → b ≡ 92 →
@@ -127,36 +129,40 @@ module _ {t : List ℕ} where
       b ≡ 92 → is_escape bs ≡ true → SuffixAt t i (b ∷ (bs ++ (34 ∷ more))) → Passes t (string_units t) i (34 ∷ more)
   escape_before_units_is_passed m h b [] more i l e f x = cc
   escape_before_units_is_passed m h b (c ∷ cs) more i l e f x =
-      elim (or_cases ((c == 92 || c == 34 || c == 123) && is_units zero cs || c == 117 && is_units 4 cs)
+      elim (or_has_true_side ((c == 92 || c == 34 || c == 123) && is_units zero cs || c == 117 && is_units 4 cs)
       (c == 85 && is_units 6 cs) f) [
-        | inl g ↦ elim (or_cases ((c == 92 || c == 34 || c == 123) && is_units zero cs) (c == 117 && is_units 4 cs) g) [
-          | inl p ↦ unit_before_units_is_passed x (ap (λ b. b == 34) e)
-              (escape_is_passed_as_unit e x
-              (reads_first (left_true (c == 92 || c == 34 || c == 123) (is_units zero cs) p) (two_bytes_pass x)))
-              (λ j y. h.passes cs more j (omega arith)
-              (right_true (c == 92 || c == 34 || c == 123) (is_units zero cs) p) y)
-          | inr p ↦ let s : c ≡ 117 = equal c 117 (left_true (c == 117) (is_units 4 cs) p) in
-              hex_escape_then m 4 h b c cs more i (omega arith) e (right_true (c == 117) (is_units 4 cs) p) x
-              (λ left y. reads_second (ap (λ c. c == 92 || c == 34 || c == 123) s)
-              (reads_first (ap (λ c. c == 117) s) y))
-        ]
-        | inr p ↦ let s : c ≡ 85 = equal c 85 (left_true (c == 85) (is_units 6 cs) p) in
-            hex_escape_then m 6 h b c cs more i (omega arith) e (right_true (c == 85) (is_units 6 cs) p) x
-            (λ left y. reads_second (ap (λ c. c == 92 || c == 34 || c == 123) s)
-            (reads_second (ap (λ c. c == 117) s) (reads_first (ap (λ c. c == 85) s) y)))
+        | inl g ↦
+            elim (or_has_true_side ((c == 92 || c == 34 || c == 123) && is_units zero cs) (c == 117 && is_units 4 cs) g) [
+              | inl p ↦ unit_before_units_is_passed x (ap (λ b. b == 34) e)
+                  (escape_is_passed_as_unit e x
+                  (first_branch_reads (and_gives_left (c == 92 || c == 34 || c == 123) (is_units zero cs) p)
+                  (two_bytes_pass x)))
+                  (λ j y. h.passes cs more j (omega arith)
+                  (and_gives_right (c == 92 || c == 34 || c == 123) (is_units zero cs) p) y)
+              | inr p ↦ let s : c ≡ 117 = same_by_test c 117 (and_gives_left (c == 117) (is_units 4 cs) p) in
+                  hex_escape_then m 4 h b c cs more i (omega arith) e (and_gives_right (c == 117) (is_units 4 cs) p) x
+                  (λ left y. second_branch_reads (ap (λ c. c == 92 || c == 34 || c == 123) s)
+                  (first_branch_reads (ap (λ c. c == 117) s) y))
+            ]
+        | inr p ↦ let s : c ≡ 85 = same_by_test c 85 (and_gives_left (c == 85) (is_units 6 cs) p) in
+            hex_escape_then m 6 h b c cs more i (omega arith) e (and_gives_right (c == 85) (is_units 6 cs) p) x
+            (λ left y. second_branch_reads (ap (λ c. c == 92 || c == 34 || c == 123) s)
+            (second_branch_reads (ap (λ c. c == 117) s) (first_branch_reads (ap (λ c. c == 85) s) y)))
       ]
 
   units_with_one_more_are_passed : (m : ℕ) → UnitsPass t m → (b : ℕ) (bs more : List ℕ) (i : ℕ) → length bs ≤ m →
       is_units zero (b ∷ bs) ≡ true → SuffixAt t i (b ∷ (bs ++ (34 ∷ more))) → Passes t (string_units t) i (34 ∷ more)
   units_with_one_more_are_passed m h b bs more i l e x =
-      elim (or_cases (b == 92 && is_escape bs) (not (b == 92 || b == 34 || b == lf) && is_units zero bs) e) [
-        | inl f ↦ escape_before_units_is_passed m h b bs more i l (equal b 92 (left_true (b == 92) (is_escape bs) f))
-            (right_true (b == 92) (is_escape bs) f) x
+      elim (or_has_true_side (b == 92 && is_escape bs) (not (b == 92 || b == 34 || b == lf) && is_units zero bs) e) [
+        | inl f ↦
+            escape_before_units_is_passed m h b bs more i l
+            (same_by_test b 92 (and_gives_left (b == 92) (is_escape bs) f))
+            (and_gives_right (b == 92) (is_escape bs) f) x
         | inr f ↦ let n =
             none_of_three_is_true (b == 92) (b == 34) (b == lf)
-            (left_true (not (b == 92 || b == 34 || b == lf)) (is_units zero bs) f) in
+            (and_gives_left (not (b == 92 || b == 34 || b == lf)) (is_units zero bs) f) in
             unit_before_units_is_passed x n.1 (plain_byte_is_passed_as_unit n.2 n.0 x)
-            (λ j y. h.passes bs more j l (right_true (not (b == 92 || b == 34 || b == lf)) (is_units zero bs) f) y)
+            (λ j y. h.passes bs more j l (and_gives_right (not (b == 92 || b == 34 || b == lf)) (is_units zero bs) f) y)
       ]
 
   units_within_length_are_passed : (m : ℕ) → (v more : List ℕ) (i : ℕ) → length v ≤ m → is_units zero v ≡ true →
@@ -171,8 +177,8 @@ module _ {t : List ℕ} where
   pub string_literal_reads_back_its_bytes : {i : ℕ} (v more : List ℕ) → is_string v ≡ true →
       SuffixAt t i (34 ∷ (v ++ (34 ∷ more))) → Reads t (string_literal t) (bytes_at t) i v more
   string_literal_reads_back_its_bytes v more e l =
-      passes_then (passes_token 34 refl l)
-      (λ j m. reads_here
+      passes_then (token_passes_its_byte 34 refl l)
+      (λ j m. here_reads_as_part_at_place
       (passes_then (units_within_length_are_passed (length v) v more j (omega arith) e m)
       (λ k n. reads_bind (span_reads_its_bytes v (34 ∷ more) m n)
-      (λ s h f o. passes_then (passes_token 34 refl o) (λ q p. reads_yields f p)))))
+      (λ s h f o. passes_then (token_passes_its_byte 34 refl o) (λ q p. yields_reads_its_view f p)))))

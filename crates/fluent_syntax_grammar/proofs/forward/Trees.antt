@@ -20,8 +20,8 @@ use Rattle.fluent_syntax_grammar.specs.Rules.{named_arguments_obey, named_obeys,
 use Rattle.fluent_syntax_grammar.specs.Rules.{variant_obeys, key_obeys, option_obeys, elements_obey, pattern_obeys}
 use Rattle.fluent_syntax_grammar.specs.Readable.{are_named_well, is_argument_value, is_expression, is_pattern, defaults}
 use Rattle.fluent_syntax_grammar.specs.Canonical.{canonical_rules, is_flush}
-use Rattle.fluent_syntax_grammar.proofs.Obeys.{inline_part, parts_of_canonical_select_obey}
-use Rattle.fluent_syntax_grammar.proofs.Facts.{left_true, right_true, equal}
+use Rattle.fluent_syntax_grammar.proofs.Obeys.{expression_obeys_inline, parts_of_canonical_select_obey}
+use Rattle.fluent_syntax_grammar.proofs.Facts.{and_gives_left, and_gives_right, same_by_test}
 use Rattle.fluent_syntax_grammar.proofs.forward.Arguments.{InlineReadsBack, ArgumentListReadsBack}
 use Rattle.fluent_syntax_grammar.proofs.forward.Arguments.{empty_argument_list_reads_back}
 use Rattle.fluent_syntax_grammar.proofs.forward.Arguments.{positional_reads_back, named_reads_back}
@@ -47,11 +47,11 @@ ArgumentsReadBack edition t level (arguments ps ns) = ArgumentListReadsBack edit
 
 module _ (edition : Edition) (t : List ℕ) where
   -- a pattern by whether it is multiline
-  pattern_by : (p : PatternTree Text) (x : Bool) → is_multiline p ≡ x → is_pattern edition p ≡ true →
+  pattern_reads_back_by_lines : (p : PatternTree Text) (x : Bool) → is_multiline p ≡ x → is_pattern edition p ≡ true →
       is_flush edition p ≡ true → ((level : ℕ) → ElementsReadBack edition t level p) → (level : ℕ) →
       PatternReadsBack edition t level p
-  pattern_by p true e g f h level = multiline_reads_back edition t level p e g f (h (level + 1))
-  pattern_by p false e g f h level = one_line_reads_back edition t level p e g (h level)
+  pattern_reads_back_by_lines p true e g f h level = multiline_reads_back edition t level p e g f (h (level + 1))
+  pattern_reads_back_by_lines p false e g f h level = one_line_reads_back edition t level p e g (h level)
 
   select_reads_back_as_element : (level : ℕ) (e : InlineTree Text) (vs : VariantTrees Text) →
       ExpressionReadsBack edition t level (select e vs) → ElementReadsBack edition t level (select e vs)
@@ -134,21 +134,21 @@ module _ (edition : Edition) (t : List ℕ) where
       expression_obeys (canonical_rules edition) (inline e) ≡ true → is_term_attribute e ≡ false
   canonical_inline_is_no_term_attribute e h =
       not_true_is_false (is_term_attribute e)
-      (left_true (not (is_term_attribute e)) true (left_true (not (is_term_attribute e) && true) _ h))
+      (and_gives_left (not (is_term_attribute e)) true (and_gives_left (not (is_term_attribute e) && true) _ h))
 
   canonical_selector_has_no_fault : (e : InlineTree Text) (vs : VariantTrees Text) →
       expression_obeys (canonical_rules edition) (select e vs) ≡ true → is_none (selector_fault e) ≡ true
   canonical_selector_has_no_fault e vs h =
-      left_true (is_none (selector_fault e)) (nat_le (defaults vs) 1)
-      (left_true (is_expression (select e vs)) (defaults vs == 1)
-      (left_true (is_expression (select e vs) && (defaults vs == 1)) _ h))
+      and_gives_left (is_none (selector_fault e)) (nat_le (defaults vs) 1)
+      (and_gives_left (is_expression (select e vs)) (defaults vs == 1)
+      (and_gives_left (is_expression (select e vs) && (defaults vs == 1)) _ h))
 
   canonical_select_has_one_default : (e : InlineTree Text) (vs : VariantTrees Text) →
       expression_obeys (canonical_rules edition) (select e vs) ≡ true → defaults vs ≡ 1
   canonical_select_has_one_default e vs h =
-      equal (defaults vs) 1
-      (right_true (is_expression (select e vs)) (defaults vs == 1)
-      (left_true (is_expression (select e vs) && (defaults vs == 1)) _ h))
+      same_by_test (defaults vs) 1
+      (and_gives_right (is_expression (select e vs)) (defaults vs == 1)
+      (and_gives_left (is_expression (select e vs) && (defaults vs == 1)) _ h))
 
   pub canonical_key_obeys_its_form : (key : KeyTree Text) → key_obeys (canonical_rules edition) key ≡ true →
       key_obeys' key ≡ true
@@ -159,10 +159,10 @@ module _ (edition : Edition) (t : List ℕ) where
       ((is_pattern edition p && is_flush edition p) && b) ≡ true →
       (is_pattern edition p ≡ true) × (is_flush edition p ≡ true) × (b ≡ true)
   canonical_pattern_is_pattern_and_flush p b h =
-      let c = left_true (is_pattern edition p && is_flush edition p) b h in (
-        left_true (is_pattern edition p) (is_flush edition p) c,
-        right_true (is_pattern edition p) (is_flush edition p) c,
-        right_true (is_pattern edition p && is_flush edition p) b h,
+      let c = and_gives_left (is_pattern edition p && is_flush edition p) b h in (
+        and_gives_left (is_pattern edition p) (is_flush edition p) c,
+        and_gives_right (is_pattern edition p) (is_flush edition p) c,
+        and_gives_right (is_pattern edition p && is_flush edition p) b h,
       )
 
   mutual
@@ -172,14 +172,14 @@ module _ (edition : Edition) (t : List ℕ) where
     expression_reads_back level (inline e) h =
         inline_expression_reads_back edition t level e
         (not_true_is_false (is_term_attribute e)
-        (left_true (not (is_term_attribute e)) true (left_true (not (is_term_attribute e) && true) _ h)))
-        (inline_reads_back level e (right_true (not (is_term_attribute e) && true) _ h))
+        (and_gives_left (not (is_term_attribute e)) true (and_gives_left (not (is_term_attribute e) && true) _ h)))
+        (inline_reads_back level e (and_gives_right (not (is_term_attribute e) && true) _ h))
     expression_reads_back level (select e vs) h =
         select_reads_back edition t level e vs (canonical_selector_has_no_fault e vs h)
-        (inline_reads_back level e (left_true (inline_obeys (canonical_rules edition) e) _
+        (inline_reads_back level e (and_gives_left (inline_obeys (canonical_rules edition) e) _
         (parts_of_canonical_select_obey edition e vs h)))
         (variants_with_one_default_read_back (level + 1) vs (canonical_select_has_one_default e vs h)
-        (right_true (inline_obeys (canonical_rules edition) e) _ (parts_of_canonical_select_obey edition e vs h)))
+        (and_gives_right (inline_obeys (canonical_rules edition) e) _ (parts_of_canonical_select_obey edition e vs h)))
 
     inline_reads_back : (level : ℕ) (e : InlineTree Text) → inline_obeys (canonical_rules edition) e ≡ true →
         InlineReadsBack edition t level e
@@ -187,12 +187,13 @@ module _ (edition : Edition) (t : List ℕ) where
     inline_reads_back level (number_literal v) h = number_literal_reads_back edition t level v h
     inline_reads_back level (function_reference id (arguments ps ns)) h =
         function_reference_reads_back edition t level id ps ns h
-        (argument_list_reads_back level (arguments ps ns) (right_true (list_all is_callee_byte id) _
-        (right_true (is_name id) _ h)))
+        (argument_list_reads_back level (arguments ps ns) (and_gives_right (list_all is_callee_byte id) _
+        (and_gives_right (is_name id) _ h)))
     inline_reads_back level (message_reference id a) h = message_reference_reads_back edition t level id a h
     inline_reads_back level (term_reference id a c) h =
         term_reference_reads_back edition t level id a c h
-        (optional_arguments_read_back level c (right_true (option_obeys is_name a) _ (right_true (is_name id) _ h)))
+        (optional_arguments_read_back level c
+        (and_gives_right (option_obeys is_name a) _ (and_gives_right (is_name id) _ h)))
     inline_reads_back level (variable_reference id) h = variable_reference_reads_back edition t level id h
     inline_reads_back level (inline_placeable e) h =
         inline_placeable_reads_back edition t level e h (expression_reads_back level e h)
@@ -207,10 +208,10 @@ module _ (edition : Edition) (t : List ℕ) where
     argument_list_reads_back : (level : ℕ) (a : ArgumentsTree Text) →
         arguments_obey (canonical_rules edition) a ≡ true → ArgumentsReadBack edition t level a
     argument_list_reads_back level (arguments ps ns) h =
-        let rest = right_true (are_named_well [] ns) _ h in
-        positionals_read_back level ps ns (left_true (inlines_obey (canonical_rules edition) ps) _ rest)
-        (nameds_read_back level [] ns (left_true (are_named_well [] ns) _ h)
-        (right_true (inlines_obey (canonical_rules edition) ps) _ rest))
+        let rest = and_gives_right (are_named_well [] ns) _ h in
+        positionals_read_back level ps ns (and_gives_left (inlines_obey (canonical_rules edition) ps) _ rest)
+        (nameds_read_back level [] ns (and_gives_left (are_named_well [] ns) _ h)
+        (and_gives_right (inlines_obey (canonical_rules edition) ps) _ rest))
 
     positionals_read_back : (level : ℕ) (ps : InlineTrees Text) (ns : NamedTrees Text) →
         inlines_obey (canonical_rules edition) ps ≡ true → ArgumentListReadsBack edition t level [] no_inlines ns →
@@ -218,53 +219,53 @@ module _ (edition : Edition) (t : List ℕ) where
     positionals_read_back level no_inlines ns h k = k
     positionals_read_back level (inlines e es) ns h k =
         positional_reads_back edition t level e es ns
-        (inline_reads_back level e (left_true (inline_obeys (canonical_rules edition) e) _ h))
-        (positionals_read_back level es ns (right_true (inline_obeys (canonical_rules edition) e) _ h) k)
+        (inline_reads_back level e (and_gives_left (inline_obeys (canonical_rules edition) e) _ h))
+        (positionals_read_back level es ns (and_gives_right (inline_obeys (canonical_rules edition) e) _ h) k)
 
     nameds_read_back : (level : ℕ) (names : List Text) (ns : NamedTrees Text) → are_named_well names ns ≡ true →
         named_arguments_obey (canonical_rules edition) ns ≡ true →
         ArgumentListReadsBack edition t level names no_inlines ns
     nameds_read_back level names no_named g h = empty_argument_list_reads_back edition t level names
     nameds_read_back level names (nameds (named_argument name e) ns) g h =
-        let this = left_true (named_obeys (canonical_rules edition) (named_argument name e)) _ h in
-        let more = right_true (not (is_used name names)) _ g in
-        named_reads_back edition t level names name e ns (left_true (is_name name) _ this)
-        (inline_reads_back level e (right_true (is_name name) _ this))
-        (not_true_is_false (is_used name names) (left_true (not (is_used name names)) _ g))
-        (left_true (is_argument_value e) _ more)
-        (nameds_read_back level (name ∷ names) ns (right_true (is_argument_value e) _ more)
-        (right_true (named_obeys (canonical_rules edition) (named_argument name e)) _ h))
+        let this = and_gives_left (named_obeys (canonical_rules edition) (named_argument name e)) _ h in
+        let more = and_gives_right (not (is_used name names)) _ g in
+        named_reads_back edition t level names name e ns (and_gives_left (is_name name) _ this)
+        (inline_reads_back level e (and_gives_right (is_name name) _ this))
+        (not_true_is_false (is_used name names) (and_gives_left (not (is_used name names)) _ g))
+        (and_gives_left (is_argument_value e) _ more)
+        (nameds_read_back level (name ∷ names) ns (and_gives_right (is_argument_value e) _ more)
+        (and_gives_right (named_obeys (canonical_rules edition) (named_argument name e)) _ h))
 
     -- variants, of which one is the default
     variants_with_one_default_read_back : (level : ℕ) (vs : VariantTrees Text) → defaults vs ≡ 1 →
         variants_obey (canonical_rules edition) vs ≡ true → VariantsReadBack edition t level false vs
     variants_with_one_default_read_back level no_variants e h = absurd (omega arith)
     variants_with_one_default_read_back level (variants (variant key value false) vs) e h =
-        let this = left_true (variant_obeys (canonical_rules edition) (variant key value false)) _ h in
+        let this = and_gives_left (variant_obeys (canonical_rules edition) (variant key value false)) _ h in
         variant_reads_back edition t level false key value vs
-        (canonical_key_obeys_its_form key (left_true (key_obeys (canonical_rules edition) key) _ this))
-        (pattern_reads_back value (right_true (key_obeys (canonical_rules edition) key) _ this) level)
+        (canonical_key_obeys_its_form key (and_gives_left (key_obeys (canonical_rules edition) key) _ this))
+        (pattern_reads_back value (and_gives_right (key_obeys (canonical_rules edition) key) _ this) level)
         (variants_with_one_default_read_back level vs e
-        (right_true (variant_obeys (canonical_rules edition) (variant key value false)) _ h))
+        (and_gives_right (variant_obeys (canonical_rules edition) (variant key value false)) _ h))
     variants_with_one_default_read_back level (variants (variant key value true) vs) e h =
-        let this = left_true (variant_obeys (canonical_rules edition) (variant key value true)) _ h in
+        let this = and_gives_left (variant_obeys (canonical_rules edition) (variant key value true)) _ h in
         default_reads_back edition t level key value vs
-        (canonical_key_obeys_its_form key (left_true (key_obeys (canonical_rules edition) key) _ this))
-        (pattern_reads_back value (right_true (key_obeys (canonical_rules edition) key) _ this) level)
+        (canonical_key_obeys_its_form key (and_gives_left (key_obeys (canonical_rules edition) key) _ this))
+        (pattern_reads_back value (and_gives_right (key_obeys (canonical_rules edition) key) _ this) level)
         (variants_without_default_read_back level vs (omega arith)
-        (right_true (variant_obeys (canonical_rules edition) (variant key value true)) _ h))
+        (and_gives_right (variant_obeys (canonical_rules edition) (variant key value true)) _ h))
 
     -- variants after the default
     variants_without_default_read_back : (level : ℕ) (vs : VariantTrees Text) → defaults vs ≡ 0 →
         variants_obey (canonical_rules edition) vs ≡ true → VariantsReadBack edition t level true vs
     variants_without_default_read_back level no_variants e h = variants_end_reads_back edition t level
     variants_without_default_read_back level (variants (variant key value false) vs) e h =
-        let this = left_true (variant_obeys (canonical_rules edition) (variant key value false)) _ h in
+        let this = and_gives_left (variant_obeys (canonical_rules edition) (variant key value false)) _ h in
         variant_reads_back edition t level true key value vs
-        (canonical_key_obeys_its_form key (left_true (key_obeys (canonical_rules edition) key) _ this))
-        (pattern_reads_back value (right_true (key_obeys (canonical_rules edition) key) _ this) level)
+        (canonical_key_obeys_its_form key (and_gives_left (key_obeys (canonical_rules edition) key) _ this))
+        (pattern_reads_back value (and_gives_right (key_obeys (canonical_rules edition) key) _ this) level)
         (variants_without_default_read_back level vs e
-        (right_true (variant_obeys (canonical_rules edition) (variant key value false)) _ h))
+        (and_gives_right (variant_obeys (canonical_rules edition) (variant key value false)) _ h))
     variants_without_default_read_back level (variants (variant key value true) vs) e h = absurd (omega arith)
 
     -- Every pattern is read back.
@@ -273,14 +274,15 @@ module _ (edition : Edition) (t : List ℕ) where
     pattern_reads_back no_elements h level = absurd cc
     pattern_reads_back (elements (text_element v) es) h level =
         let c = canonical_pattern_is_pattern_and_flush (elements (text_element v) es) _ h in
-        pattern_by (elements (text_element v) es) (is_multiline (elements (text_element v) es)) refl c.0 c.1
+        pattern_reads_back_by_lines (elements (text_element v) es) (is_multiline (elements (text_element v) es)) refl
+        c.0 c.1
         (λ l. elements_read_back es c.2 l) level
     pattern_reads_back (elements (placeable x) es) h level =
         let c = canonical_pattern_is_pattern_and_flush (elements (placeable x) es) _ h in
-        pattern_by (elements (placeable x) es) (is_multiline (elements (placeable x) es)) refl c.0 c.1
+        pattern_reads_back_by_lines (elements (placeable x) es) (is_multiline (elements (placeable x) es)) refl c.0 c.1
         (λ l. (
-          element_reads_back x (left_true (expression_obeys (canonical_rules edition) x) _ c.2) l,
-          elements_read_back es (right_true (expression_obeys (canonical_rules edition) x) _ c.2) l,
+          element_reads_back x (and_gives_left (expression_obeys (canonical_rules edition) x) _ c.2) l,
+          elements_read_back es (and_gives_right (expression_obeys (canonical_rules edition) x) _ c.2) l,
         )) level
 
     elements_read_back : (es : PatternTree Text) → elements_obey (canonical_rules edition) es ≡ true → (level : ℕ) →
@@ -288,8 +290,8 @@ module _ (edition : Edition) (t : List ℕ) where
     elements_read_back no_elements h level = tt
     elements_read_back (elements (text_element v) es) h level = elements_read_back es h level
     elements_read_back (elements (placeable x) es) h level = (
-      element_reads_back x (left_true (expression_obeys (canonical_rules edition) x) _ h) level,
-      elements_read_back es (right_true (expression_obeys (canonical_rules edition) x) _ h) level,
+      element_reads_back x (and_gives_left (expression_obeys (canonical_rules edition) x) _ h) level,
+      elements_read_back es (and_gives_right (expression_obeys (canonical_rules edition) x) _ h) level,
     )
 
     element_reads_back : (e : ExpressionTree Text) → expression_obeys (canonical_rules edition) e ≡ true → (level : ℕ) →
@@ -297,35 +299,36 @@ module _ (edition : Edition) (t : List ℕ) where
     element_reads_back (select e vs) h level =
         select_reads_back_as_element level e vs
         (select_reads_back edition t level e vs (canonical_selector_has_no_fault e vs h)
-        (inline_reads_back level e (left_true (inline_obeys (canonical_rules edition) e) _
+        (inline_reads_back level e (and_gives_left (inline_obeys (canonical_rules edition) e) _
         (parts_of_canonical_select_obey edition e vs h)))
         (variants_with_one_default_read_back (level + 1) vs (canonical_select_has_one_default e vs h)
-        (right_true (inline_obeys (canonical_rules edition) e) _ (parts_of_canonical_select_obey edition e vs h))))
+        (and_gives_right (inline_obeys (canonical_rules edition) e) _ (parts_of_canonical_select_obey edition e vs h))))
     element_reads_back (inline (string_literal v)) h level =
         string_reads_back_as_element level v
-        (string_literal_reads_back edition t level v (inline_part edition (string_literal v) h))
+        (string_literal_reads_back edition t level v (expression_obeys_inline edition (string_literal v) h))
     element_reads_back (inline (number_literal v)) h level =
         number_reads_back_as_element level v
-        (number_literal_reads_back edition t level v (inline_part edition (number_literal v) h))
+        (number_literal_reads_back edition t level v (expression_obeys_inline edition (number_literal v) h))
     element_reads_back (inline (function_reference id (arguments ps ns))) h level =
         function_reads_back_as_element level id (arguments ps ns)
         (function_reference_reads_back edition t level id ps ns
-        (inline_part edition (function_reference id (arguments ps ns)) h)
+        (expression_obeys_inline edition (function_reference id (arguments ps ns)) h)
         (argument_list_reads_back level (arguments ps ns)
-        (right_true (list_all is_callee_byte id)
-        _ (right_true (is_name id) _ (inline_part edition (function_reference id (arguments ps ns)) h)))))
+        (and_gives_right (list_all is_callee_byte id)
+        _ (and_gives_right (is_name id) _
+        (expression_obeys_inline edition (function_reference id (arguments ps ns)) h)))))
     element_reads_back (inline (message_reference id a)) h level =
         message_reads_back_as_element level id a
-        (message_reference_reads_back edition t level id a (inline_part edition (message_reference id a) h))
+        (message_reference_reads_back edition t level id a (expression_obeys_inline edition (message_reference id a) h))
     element_reads_back (inline (term_reference id a c)) h level =
         term_reads_back_as_element level id a c (canonical_inline_is_no_term_attribute (term_reference id a c) h)
-        (term_reference_reads_back edition t level id a c (inline_part edition (term_reference id a c) h)
+        (term_reference_reads_back edition t level id a c (expression_obeys_inline edition (term_reference id a c) h)
         (optional_arguments_read_back level c
-        (right_true (option_obeys is_name a)
-        _ (right_true (is_name id) _ (inline_part edition (term_reference id a c) h)))))
+        (and_gives_right (option_obeys is_name a)
+        _ (and_gives_right (is_name id) _ (expression_obeys_inline edition (term_reference id a c) h)))))
     element_reads_back (inline (variable_reference id)) h level =
         variable_reads_back_as_element level id (variable_reference_reads_back edition t level id
-        (inline_part edition (variable_reference id) h))
+        (expression_obeys_inline edition (variable_reference id) h))
     element_reads_back (inline (inline_placeable e)) h level =
         placeable_in_placeable_reads_back level e
-        (expression_reads_back level e (inline_part edition (inline_placeable e) h))
+        (expression_reads_back level e (expression_obeys_inline edition (inline_placeable e) h))

@@ -13,8 +13,8 @@ use Rattle.fluent_syntax_grammar.specs.Written.{Text, text_after, message_marks,
 use Rattle.fluent_syntax_grammar.specs.Written.{hashes_of, body_marks, written}
 use Rattle.fluent_syntax_grammar.specs.Joined.{joined_message, joined_term, joined_body}
 use Rattle.fluent_syntax_grammar.specs.RoundTrip.{ReadsAs, tree_of, WrittenApart, WrittenAgain}
-use Rattle.fluent_syntax_grammar.proofs.Facts.{append_nothing}
-use Rattle.fluent_syntax_grammar.proofs.OneTiling.{same_tilings}
+use Rattle.fluent_syntax_grammar.proofs.Facts.{append_of_nothing_is_same}
+use Rattle.fluent_syntax_grammar.proofs.OneTiling.{tilings_of_text_are_same}
 use Rattle.fluent_syntax_grammar.proofs.JunkAndSpans.{junk_is_where_errors_are}
 use Rattle.fluent_syntax_grammar.proofs.marks.Entries.{written_is_read_back}
 use Rattle.fluent_syntax_grammar.proofs.marks.JoinedTrees.{SameText, marks_have_their_own_text, SameText-append}
@@ -25,7 +25,7 @@ use Rattle.fluent_syntax_grammar.proofs.marks.JoinedTrees.{joined_reads_back}
 text_reads_as_one_tree : (edition : Edition) (t : Text) (r other : BodyTree Text) → ReadsAs edition t r →
     ReadsAs edition t other → r ≡ other
 text_reads_as_one_tree edition t r other a b =
-    sym a.same ∙ (ap (tree_of t) (same_tilings edition t a.tiles b.tiles a.tiling b.tiling) ∙ b.same)
+    sym a.same ∙ (ap (tree_of t) (tilings_of_text_are_same edition t a.tiles b.tiles a.tiling b.tiling) ∙ b.same)
 
 -- Two canonical trees that are written as one text are equal.
 pub serialize_is_injective : (edition : Edition) (r other : BodyTree Text) → WrittenApart edition r other
@@ -66,8 +66,8 @@ module _ (t : List ℕ) where
   body_without_junk_is_written_as_joined es h =
       let xs = body_marks false false (body_map (bytes_at t) es) in
       let ys = body_marks false false (joined_body (body_map (bytes_at t) es)) in
-      sym (ap (text_after None) (sym (append_nothing xs))
-      ∙ (body_without_junk_has_text_of_joined es false h None [] ∙ ap (text_after None) (append_nothing ys)))
+      sym (ap (text_after None) (sym (append_of_nothing_is_same xs))
+      ∙ (body_without_junk_has_text_of_joined es false h None [] ∙ ap (text_after None) (append_of_nothing_is_same ys)))
 
   faultless_tiles_have_no_junk : (tiles : List Tile) → Tiling One t tiles → faults tiles ≡ [] →
       flat_map junk_slice (body tiles) ≡ []
@@ -75,8 +75,8 @@ module _ (t : List ℕ) where
       junk_is_where_errors_are One t tiles tiling ∙ ap (map fault_slice) clean
 
   -- What a text is read as is written as a text that reads as its joined tree, and is written so again.
-  pub written_again : WrittenAgain t
-  written_again tiles tiling canonical = (
+  pub text_is_written_again : WrittenAgain t
+  text_is_written_again tiles tiling canonical = (
     joined_reads_back (tree_of t tiles) canonical,
     written_is_read_back One (joined_body (tree_of t tiles)) false canonical,
     λ clean. body_without_junk_is_written_as_joined (body tiles) (faultless_tiles_have_no_junk tiles tiling clean),

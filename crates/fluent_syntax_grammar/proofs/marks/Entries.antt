@@ -19,15 +19,15 @@ use Rattle.fluent_syntax_grammar.specs.Rules.{entry_obeys, body_obeys}
 use Rattle.fluent_syntax_grammar.specs.Readable.{has_field}
 use Rattle.fluent_syntax_grammar.specs.Canonical.{canonical_rules, is_canonical}
 use Rattle.fluent_syntax_grammar.specs.RoundTrip.{ReadsAs, ReadsBack}
-use Rattle.fluent_syntax_grammar.proofs.Facts.{left_true, right_true}
+use Rattle.fluent_syntax_grammar.proofs.Facts.{and_gives_left, and_gives_right}
 use Rattle.fluent_syntax_grammar.proofs.marks.WrittenBytes.{pattern_bytes}
 use Rattle.fluent_syntax_grammar.proofs.marks.WrittenEntries.{doubled, after_hashes, comment_bytes, own_comment_bytes}
 use Rattle.fluent_syntax_grammar.proofs.marks.WrittenEntries.{more_attributes, value_bytes, message_bytes, term_bytes}
 use Rattle.fluent_syntax_grammar.proofs.marks.LastBytes.{literal_is_written}
-use Rattle.fluent_syntax_grammar.proofs.marks.Words.{id_plain}
-use Rattle.fluent_syntax_grammar.proofs.marks.Trees.{after_byte, whole_pattern_is_written}
+use Rattle.fluent_syntax_grammar.proofs.marks.Words.{name_ends_plainly}
+use Rattle.fluent_syntax_grammar.proofs.marks.Trees.{text_after_other_byte_is_same, whole_pattern_is_written}
 use Rattle.fluent_syntax_grammar.proofs.forward.Bodies.{IsWritten, nothing, a_message, a_term, a_comment, gap_bytes}
-use Rattle.fluent_syntax_grammar.proofs.forward.Bodies.{reads_back}
+use Rattle.fluent_syntax_grammar.proofs.forward.Bodies.{canonical_body_reads_back}
 
 -- ---- comments
 
@@ -90,8 +90,8 @@ module _ (edition : Edition) where
       ≡ lf ∷ more_attributes more (text_after (Some lf) ms)
   attributes_are_written [] ms h = refl
   attributes_are_written (a ∷ more) ms h =
-      let this = left_true (attribute_obeys (canonical_rules edition) a) _ h in
-      let others = right_true (attribute_obeys (canonical_rules edition) a) _ h in
+      let this = and_gives_left (attribute_obeys (canonical_rules edition) a) _ h in
+      let others = and_gives_right (attribute_obeys (canonical_rules edition) a) _ h in
       let end = line_end ∷ [] in
       let rest = (attributes_marks more ++ end) ++ ms in
       let p = pattern_marks 1 a.value in
@@ -101,12 +101,12 @@ module _ (edition : Edition) where
       ∙ ap (λ x. attribute_line_marks a ++ x) (sym (append_assoc (attributes_marks more) end ms)) in
       ap (text_after None) parts
       ∙ ap (λ x. lf ∷ 32 ∷ 32 ∷ 32 ∷ 32 ∷ 46 ∷ x)
-      (after_byte 46 (literal 1 a.id ∷ literal 1 (codes " =") ∷ (p ++ rest)) refl refl
+      (text_after_other_byte_is_same 46 (literal 1 a.id ∷ literal 1 (codes " =") ∷ (p ++ rest)) refl refl
       ∙ literal_is_written 1 a.id (literal 1 (codes " =") ∷ (p ++ rest))
-      (id_plain a.id (left_true (is_name a.id) _ this))
+      (name_ends_plainly a.id (and_gives_left (is_name a.id) _ this))
       ∙ ap (λ x. a.id ++ (32 ∷ 61 ∷ x))
-      (after_byte 61 (p ++ rest) refl refl
-      ∙ whole_pattern_is_written edition 1 a.value (right_true (is_name a.id) _ this) rest
+      (text_after_other_byte_is_same 61 (p ++ rest) refl refl
+      ∙ whole_pattern_is_written edition 1 a.value (and_gives_right (is_name a.id) _ this) rest
       ∙ ap (pattern_bytes 1 a.value) (attributes_are_written more ms others)))
 
   -- from ` =` on
@@ -118,51 +118,52 @@ module _ (edition : Edition) where
   fields_are_written value bytes more ms k h =
       let rest = attributes_marks more ++ (line_end ∷ []) in
       ap (λ x. 32 ∷ 61 ∷ x)
-      (after_byte 61 ((value ++ rest) ++ ms) refl refl ∙ ap (text_after None) (append_assoc value rest ms)
+      (text_after_other_byte_is_same 61 ((value ++ rest) ++ ms) refl refl ∙
+      ap (text_after None) (append_assoc value rest ms)
       ∙ k (rest ++ ms) ∙ ap bytes (attributes_are_written more ms h))
 
   identifier_is_written : (id : Text) (ms : List Mark) → is_name id ≡ true →
       text_after (Some lf) (literal 0 id ∷ ms) ≡ id ++ text_after None ms
   identifier_is_written [] ms h = absurd cc
-  identifier_is_written (b ∷ bs) ms h = literal_is_written 0 (b ∷ bs) ms (id_plain (b ∷ bs) h)
+  identifier_is_written (b ∷ bs) ms h = literal_is_written 0 (b ∷ bs) ms (name_ends_plainly (b ∷ bs) h)
 
   pub message_is_written : (m : MessageTree Text) (ms : List Mark) → message_obeys (canonical_rules edition) m ≡ true →
       text_after (Some lf) (message_marks m ++ ms)
       ≡ own_comment_bytes m.comment (message_bytes m.id m.value m.attributes (text_after (Some lf) ms))
   message_is_written m ms h =
-      let y = right_true (has_field m.value m.attributes) _ h in
-      let z = right_true (option_obeys (canonical_rules edition).comment m.comment) _ y in
-      let q = right_true (is_name m.id) _ z in
+      let y = and_gives_right (has_field m.value m.attributes) _ h in
+      let z = and_gives_right (option_obeys (canonical_rules edition).comment m.comment) _ y in
+      let q = and_gives_right (is_name m.id) _ z in
       let fields =
       literal 0 (codes " =") ∷ (value_marks m.value ++ (attributes_marks m.attributes ++ (line_end ∷ []))) in
       ap (text_after (Some lf)) (append_assoc (own_comment_marks m.comment) (literal 0 m.id ∷ fields) ms)
       ∙ own_comment_is_written m.comment (literal 0 m.id ∷ (fields ++ ms))
-      ∙ ap (own_comment_bytes m.comment) (identifier_is_written m.id (fields ++ ms) (left_true (is_name m.id) _ z)
+      ∙ ap (own_comment_bytes m.comment) (identifier_is_written m.id (fields ++ ms) (and_gives_left (is_name m.id) _ z)
       ∙ ap (λ x. m.id ++ x)
       (fields_are_written (value_marks m.value) (value_bytes m.value) m.attributes ms
       (λ ms. value_is_written m.value ms
-      (left_true (option_obeys (pattern_obeys (canonical_rules edition)) m.value) _ q))
-      (right_true (option_obeys (pattern_obeys (canonical_rules edition)) m.value) _ q)))
+      (and_gives_left (option_obeys (pattern_obeys (canonical_rules edition)) m.value) _ q))
+      (and_gives_right (option_obeys (pattern_obeys (canonical_rules edition)) m.value) _ q)))
 
   pub term_is_written : (m : TermTree Text) (ms : List Mark) → term_obeys (canonical_rules edition) m ≡ true →
       text_after (Some lf) (term_marks m ++ ms)
       ≡ own_comment_bytes m.comment (term_bytes m.id m.value m.attributes (text_after (Some lf) ms))
   term_is_written m ms h =
-      let z = right_true (option_obeys (canonical_rules edition).comment m.comment) _ h in
-      let q = right_true (is_name m.id) _ z in
+      let z = and_gives_right (option_obeys (canonical_rules edition).comment m.comment) _ h in
+      let q = and_gives_right (is_name m.id) _ z in
       let fields =
       literal 0 (codes " =") ∷ (pattern_marks 0 m.value ++ (attributes_marks m.attributes ++ (line_end ∷ []))) in
       ap (text_after (Some lf))
       (append_assoc (own_comment_marks m.comment) (literal 0 (codes "-") ∷ literal 0 m.id ∷ fields) ms)
       ∙ own_comment_is_written m.comment (literal 0 (codes "-") ∷ literal 0 m.id ∷ (fields ++ ms))
       ∙ ap (λ x. own_comment_bytes m.comment (45 ∷ x))
-      (after_byte 45 (literal 0 m.id ∷ (fields ++ ms)) refl refl
-      ∙ literal_is_written 0 m.id (fields ++ ms) (id_plain m.id (left_true (is_name m.id) _ z))
+      (text_after_other_byte_is_same 45 (literal 0 m.id ∷ (fields ++ ms)) refl refl
+      ∙ literal_is_written 0 m.id (fields ++ ms) (name_ends_plainly m.id (and_gives_left (is_name m.id) _ z))
       ∙ ap (λ x. m.id ++ x)
       (fields_are_written (pattern_marks 0 m.value) (pattern_bytes 0 m.value) m.attributes ms
       (λ ms. whole_pattern_is_written edition 0 m.value
-      (left_true (pattern_obeys (canonical_rules edition) m.value) _ q) ms)
-      (right_true (pattern_obeys (canonical_rules edition) m.value) _ q)))
+      (and_gives_left (pattern_obeys (canonical_rules edition) m.value) _ q) ms)
+      (and_gives_right (pattern_obeys (canonical_rules edition) m.value) _ q)))
 
   -- ---- bodies
 
@@ -187,20 +188,21 @@ module _ (edition : Edition) where
   body_is_written (message m ∷ es) follows h =
       let rest = body_marks false true es in
       subst (IsWritten (message m ∷ es))
-      (sym (message_is_written m rest (left_true (message_obeys (canonical_rules edition) m) _ h)))
+      (sym (message_is_written m rest (and_gives_left (message_obeys (canonical_rules edition) m) _ h)))
       (a_message m es (text_after (Some lf) rest)
-      (body_is_written es true (right_true (message_obeys (canonical_rules edition) m) _ h)))
+      (body_is_written es true (and_gives_right (message_obeys (canonical_rules edition) m) _ h)))
   body_is_written (term m ∷ es) follows h =
       let rest = body_marks false true es in
-      subst (IsWritten (term m ∷ es)) (sym (term_is_written m rest (left_true (term_obeys (canonical_rules edition) m) _
+      subst (IsWritten (term m ∷ es))
+      (sym (term_is_written m rest (and_gives_left (term_obeys (canonical_rules edition) m) _
       h)))
       (a_term m es (text_after (Some lf) rest)
-      (body_is_written es true (right_true (term_obeys (canonical_rules edition) m) _ h)))
+      (body_is_written es true (and_gives_right (term_obeys (canonical_rules edition) m) _ h)))
   body_is_written (comment level content ∷ es) follows h =
       let rest = body_marks false true es in
       subst (IsWritten (comment level content ∷ es)) (sym (free_comment_is_written follows level content rest))
       (a_comment follows level content es (text_after (Some lf) rest)
-      (body_is_written es true (right_true (entry_obeys (canonical_rules edition) (comment level content)) _ h)))
+      (body_is_written es true (and_gives_right (entry_obeys (canonical_rules edition) (comment level content)) _ h)))
   body_is_written (junk x ∷ es) follows h = absurd cc
 
 -- ---- the start of the text, which is written as a line's start
@@ -220,10 +222,10 @@ marks_of_comment_are_starting regular (line ∷ lines) ms s = refl
 marks_of_comment_are_starting group (line ∷ lines) ms s = refl
 marks_of_comment_are_starting resource (line ∷ lines) ms s = refl
 
-marks_of_own_comment_are_starting : (content : Option (List Text)) (ms : List Mark) → Starting ms →
+own_comment_before_starting_is_starting : (content : Option (List Text)) (ms : List Mark) → Starting ms →
     Starting (own_comment_marks content ++ ms)
-marks_of_own_comment_are_starting None ms s = s
-marks_of_own_comment_are_starting (Some content) ms s = marks_of_comment_are_starting regular content ms s
+own_comment_before_starting_is_starting None ms s = s
+own_comment_before_starting_is_starting (Some content) ms s = marks_of_comment_are_starting regular content ms s
 
 equal_marks_are_starting : (xs ys : List Mark) → xs ≡ ys → Starting ys → Starting xs
 equal_marks_are_starting xs ys e s = subst Starting (sym e) s
@@ -233,7 +235,7 @@ pub marks_of_message_are_starting : (m : MessageTree Text) (ms : List Mark) → 
 marks_of_message_are_starting m ms h =
     let fields = literal 0 (codes " =") ∷ (value_marks m.value ++ (attributes_marks m.attributes ++ (line_end ∷ []))) in
     equal_marks_are_starting _ _ (append_assoc (own_comment_marks m.comment) (literal 0 m.id ∷ fields) ms)
-    (marks_of_own_comment_are_starting m.comment (literal 0 m.id ∷ (fields ++ ms))
+    (own_comment_before_starting_is_starting m.comment (literal 0 m.id ∷ (fields ++ ms))
     (marks_of_name_are_starting m.id (fields ++ ms) h))
 
 pub marks_of_term_are_starting : (m : TermTree Text) (ms : List Mark) → Starting (term_marks m ++ ms)
@@ -242,7 +244,7 @@ marks_of_term_are_starting m ms =
     literal 0 (codes " =") ∷ (pattern_marks 0 m.value ++ (attributes_marks m.attributes ++ (line_end ∷ []))) in
     equal_marks_are_starting _ _
     (append_assoc (own_comment_marks m.comment) (literal 0 (codes "-") ∷ literal 0 m.id ∷ fields) ms)
-    (marks_of_own_comment_are_starting m.comment (literal 0 (codes "-") ∷ literal 0 m.id ∷ (fields ++ ms)) refl)
+    (own_comment_before_starting_is_starting m.comment (literal 0 (codes "-") ∷ literal 0 m.id ∷ (fields ++ ms)) refl)
 
 pub marks_of_free_comment_are_starting : (level : Level) (content : List Text) (ms : List Mark) →
     Starting (free_comment_marks false (hashes_of level) content ++ ms)
@@ -254,11 +256,11 @@ marks_of_body_are_starting : (edition : Edition) (es : BodyTree Text) → body_o
     Starting (body_marks false false es)
 marks_of_body_are_starting edition [] h = refl
 marks_of_body_are_starting edition (message m ∷ es) h =
-    let this = left_true (message_obeys (canonical_rules edition) m) _ h in
+    let this = and_gives_left (message_obeys (canonical_rules edition) m) _ h in
     marks_of_message_are_starting m (body_marks false true es)
-    (left_true (is_name m.id)
-    _ (right_true (option_obeys (canonical_rules edition).comment m.comment)
-    _ (right_true (has_field m.value m.attributes) _ this)))
+    (and_gives_left (is_name m.id)
+    _ (and_gives_right (option_obeys (canonical_rules edition).comment m.comment)
+    _ (and_gives_right (has_field m.value m.attributes) _ this)))
 marks_of_body_are_starting edition (term m ∷ es) h = marks_of_term_are_starting m (body_marks false true es)
 marks_of_body_are_starting edition (comment level content ∷ es) h =
     marks_of_free_comment_are_starting level content (body_marks false true es)
@@ -280,14 +282,15 @@ marks_with_junk_are_marks_without : (edition : Edition) (es : BodyTree Text) (fo
 marks_with_junk_are_marks_without edition [] follows h = refl
 marks_with_junk_are_marks_without edition (message m ∷ es) follows h =
     ap (λ ms. message_marks m ++ ms)
-    (marks_with_junk_are_marks_without edition es true (right_true (message_obeys (canonical_rules edition) m) _ h))
+    (marks_with_junk_are_marks_without edition es true
+    (and_gives_right (message_obeys (canonical_rules edition) m) _ h))
 marks_with_junk_are_marks_without edition (term m ∷ es) follows h =
     ap (λ ms. term_marks m ++ ms)
-    (marks_with_junk_are_marks_without edition es true (right_true (term_obeys (canonical_rules edition) m) _ h))
+    (marks_with_junk_are_marks_without edition es true (and_gives_right (term_obeys (canonical_rules edition) m) _ h))
 marks_with_junk_are_marks_without edition (comment level content ∷ es) follows h =
     ap (λ ms. free_comment_marks follows (hashes_of level) content ++ ms)
     (marks_with_junk_are_marks_without edition es true
-    (right_true (entry_obeys (canonical_rules edition) (comment level content)) _ h))
+    (and_gives_right (entry_obeys (canonical_rules edition) (comment level content)) _ h))
 marks_with_junk_are_marks_without edition (junk x ∷ es) follows h = absurd cc
 
 -- A canonical body has no junk, so it is written as one text under both options.
@@ -302,7 +305,7 @@ written_is_read_back edition es with_junk h = canonical_body_written_either_way_
   where
     canonical_body_written_plain_reads_back : ReadsAs edition (written false es) es
     canonical_body_written_plain_reads_back =
-        reads_back edition es (written false es) h (canonical_body_is_written edition es h)
+        canonical_body_reads_back edition es (written false es) h (canonical_body_is_written edition es h)
 
     canonical_body_written_either_way_reads_back : (with_junk : Bool) → ReadsAs edition (written with_junk es) es
     canonical_body_written_either_way_reads_back false = canonical_body_written_plain_reads_back

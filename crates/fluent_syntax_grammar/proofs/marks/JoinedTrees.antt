@@ -31,11 +31,12 @@ use Rattle.fluent_syntax_grammar.specs.Joined.{joined_arguments, joined_inlines,
 use Rattle.fluent_syntax_grammar.specs.Joined.{joined_variants, joined_pattern, joined_after, joined_attribute}
 use Rattle.fluent_syntax_grammar.specs.Joined.{joined_message, joined_term, joined_body}
 use Rattle.fluent_syntax_grammar.specs.RoundTrip.{ReadsBackJoined}
-use Rattle.fluent_syntax_grammar.proofs.Facts.{left_true, right_true, equal, append_nothing}
-use Rattle.fluent_syntax_grammar.proofs.forward.Bodies.{IsWritten, nothing, a_message, a_term, a_comment, reads_back}
+use Rattle.fluent_syntax_grammar.proofs.Facts.{and_gives_left, and_gives_right, same_by_test, append_of_nothing_is_same}
+use Rattle.fluent_syntax_grammar.proofs.forward.Bodies.{IsWritten, nothing, a_message, a_term, a_comment}
+use Rattle.fluent_syntax_grammar.proofs.forward.Bodies.{canonical_body_reads_back}
 use Rattle.fluent_syntax_grammar.proofs.marks.WrittenBytes.{line_indent}
 use Rattle.fluent_syntax_grammar.proofs.JoinedLines.{joining_keeps_is_multiline}
-use Rattle.fluent_syntax_grammar.proofs.marks.LastBytes.{last_append}
+use Rattle.fluent_syntax_grammar.proofs.marks.LastBytes.{last_of_append_is_of_second}
 use Rattle.fluent_syntax_grammar.proofs.marks.Words.{literal_is_written_off_line_start, literal_is_written_at_line}
 use Rattle.fluent_syntax_grammar.proofs.marks.Entries.{message_is_written, term_is_written, free_comment_is_written}
 use Rattle.fluent_syntax_grammar.proofs.marks.Entries.{Starting, marks_of_message_are_starting}
@@ -98,8 +99,8 @@ lists_of_same_texts_join_to_same_text level (x ∷ xs) (y ∷ ys) (more_lists g 
 lone_lf_is_one_lf : (w : Text) → is_lone_lf w ≡ true → w ≡ lf ∷ []
 lone_lf_is_one_lf [] e = cc
 lone_lf_is_one_lf (b ∷ bs) e =
-    lf_before_nothing_is_lone_lf b bs (equal b lf (left_true (b == lf) (is_empty bs) e))
-    (right_true (b == lf) (is_empty bs) e)
+    lf_before_nothing_is_lone_lf b bs (same_by_test b lf (and_gives_left (b == lf) (is_empty bs) e))
+    (and_gives_right (b == lf) (is_empty bs) e)
   where
     lf_before_nothing_is_lone_lf : (b : ℕ) (bs : Text) → b ≡ lf → is_empty bs ≡ true → b ∷ bs ≡ lf ∷ []
     lf_before_nothing_is_lone_lf b [] e f = ap (λ b. b ∷ []) e
@@ -122,7 +123,11 @@ empty_literal_is_written : (at_line : Bool) (n : ℕ) (last : Option ℕ) (ms : 
 empty_literal_is_written false n last ms e = rw e refl
 empty_literal_is_written true zero last ms e = rw e refl
 empty_literal_is_written true (suc n) last ms e =
-    rw (append_nothing (replicate n space), spaces_end_in_no_lf n, last_append (replicate n space) (Some space) lf [])
+    rw (
+      append_of_nothing_is_same (replicate n space),
+      spaces_end_in_no_lf n,
+      last_of_append_is_of_second (replicate n space) (Some space) lf [],
+    )
     (ap (λ t. space ∷ t) (sym (append_assoc (replicate n space) (lf ∷ []) (text_after (Some lf) ms))))
 
 two_literals_are_one : (level : ℕ) (v : Text) (ms : List Mark) (last : Option ℕ) → ends_in_lf v ≡ false →
@@ -136,13 +141,13 @@ two_literals_are_one level (c ∷ v) ms last e =
     (literal_is_written_off_line_start (last_of None (c ∷ v)) level (lf ∷ []) ms e)
     ∙ ap (λ t. line_indent level at_line ++ t)
     (sym (append_assoc (c ∷ v) (lf ∷ []) (text_after (Some lf) ms))
-    ∙ ap (λ o. (c ∷ (v ++ (lf ∷ []))) ++ text_after o ms) (sym (last_append v (Some c) lf [])))
+    ∙ ap (λ o. (c ∷ (v ++ (lf ∷ []))) ++ text_after o ms) (sym (last_of_append_is_of_second v (Some c) lf [])))
     ∙ sym (literal_is_written_at_line last at_line level c (v ++ (lf ∷ [])) ms refl)
 
 joined_parts_are_text_and_lf : (v w : Text) → is_joined v w ≡ true → (w ≡ lf ∷ []) × (ends_in_lf v ≡ false)
 joined_parts_are_text_and_lf v w e = (
-  lone_lf_is_one_lf w (left_true (is_lone_lf w) (not (ends_in_lf v)) e),
-  not_true_is_false (ends_in_lf v) (right_true (is_lone_lf w) (not (ends_in_lf v)) e),
+  lone_lf_is_one_lf w (and_gives_left (is_lone_lf w) (not (ends_in_lf v)) e),
+  not_true_is_false (ends_in_lf v) (and_gives_right (is_lone_lf w) (not (ends_in_lf v)) e),
 )
 
 -- a text, a lone LF and more
@@ -451,35 +456,35 @@ module _ (edition : Edition) where
   joined_is_written [] follows h = nothing
   joined_is_written (message m ∷ es) follows h =
       let rest = body_marks false true es in
-      let this = left_true (message_obeys (canonical_rules edition) (joined_message m)) _ h in
+      let this = and_gives_left (message_obeys (canonical_rules edition) (joined_message m)) _ h in
       subst (IsWritten (joined_body (message m ∷ es)))
       (sym (joining_keeps_text_of_message m (Some lf) rest ∙ message_is_written edition (joined_message m) rest this))
       (a_message (joined_message m) (joined_body es) (text_after (Some lf) rest)
-      (joined_is_written es true (right_true (message_obeys (canonical_rules edition) (joined_message m)) _ h)))
+      (joined_is_written es true (and_gives_right (message_obeys (canonical_rules edition) (joined_message m)) _ h)))
   joined_is_written (term m ∷ es) follows h =
       let rest = body_marks false true es in
-      let this = left_true (term_obeys (canonical_rules edition) (joined_term m)) _ h in
+      let this = and_gives_left (term_obeys (canonical_rules edition) (joined_term m)) _ h in
       subst (IsWritten (joined_body (term m ∷ es)))
       (sym (joining_keeps_text_of_term m (Some lf) rest ∙ term_is_written edition (joined_term m) rest this))
       (a_term (joined_term m) (joined_body es) (text_after (Some lf) rest)
-      (joined_is_written es true (right_true (term_obeys (canonical_rules edition) (joined_term m)) _ h)))
+      (joined_is_written es true (and_gives_right (term_obeys (canonical_rules edition) (joined_term m)) _ h)))
   joined_is_written (comment level content ∷ es) follows h =
       let rest = body_marks false true es in
       subst (IsWritten (joined_body (comment level content ∷ es))) (sym
       (free_comment_is_written edition follows level content rest))
       (a_comment follows level content (joined_body es) (text_after (Some lf) rest)
-      (joined_is_written es true (right_true (entry_obeys (canonical_rules edition) (comment level content)) _ h)))
+      (joined_is_written es true (and_gives_right (entry_obeys (canonical_rules edition) (comment level content)) _ h)))
   joined_is_written (junk x ∷ es) follows h = joined_is_written es false h
 
   marks_start_where_joined_body_obeys : (es : BodyTree Text) →
       body_obeys (canonical_rules edition) (joined_body es) ≡ true → Starting (body_marks false false es)
   marks_start_where_joined_body_obeys [] h = refl
   marks_start_where_joined_body_obeys (message m ∷ es) h =
-      let this = left_true (message_obeys (canonical_rules edition) (joined_message m)) _ h in
+      let this = and_gives_left (message_obeys (canonical_rules edition) (joined_message m)) _ h in
       marks_of_message_are_starting m (body_marks false true es)
-      (left_true (is_name m.id)
-      _ (right_true (option_obeys (canonical_rules edition).comment m.comment)
-      _ (right_true (has_field (option_map joined_pattern m.value) (map joined_attribute m.attributes))
+      (and_gives_left (is_name m.id)
+      _ (and_gives_right (option_obeys (canonical_rules edition).comment m.comment)
+      _ (and_gives_right (has_field (option_map joined_pattern m.value) (map joined_attribute m.attributes))
       _ this)))
   marks_start_where_joined_body_obeys (term m ∷ es) h = marks_of_term_are_starting m (body_marks false true es)
   marks_start_where_joined_body_obeys (comment level content ∷ es) h =
@@ -493,4 +498,5 @@ joined_body_is_written es h = subst (IsWritten (joined_body es)) (sym (marks_sta
     (joined_is_written One es false h)
 
 pub joined_reads_back : (es : BodyTree Text) → ReadsBackJoined es
-joined_reads_back es h = reads_back One (joined_body es) (written false es) h (joined_body_is_written es h)
+joined_reads_back es h =
+    canonical_body_reads_back One (joined_body es) (written false es) h (joined_body_is_written es h)

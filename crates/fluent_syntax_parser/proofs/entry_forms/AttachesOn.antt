@@ -9,8 +9,8 @@ use Rattle.fluent_syntax_grammar.specs.Body.{body, attached}
 use Rattle.fluent_syntax_grammar.specs.Construct.{Read}
 use Rattle.fluent_syntax_grammar.specs.Places.{BlankBlock}
 use Rattle.fluent_syntax_grammar.specs.Tiling.{Tile, entry, entry_at, Tiled, done, next, TileAt, reads, refuses}
-use Rattle.fluent_syntax_grammar.proofs.Facts.{equal, number_eq_self}
-use Rattle.fluent_syntax_grammar.proofs.Functional.{single_block}
+use Rattle.fluent_syntax_grammar.proofs.Facts.{same_by_test, number_eq_self}
+use Rattle.fluent_syntax_grammar.proofs.Functional.{blank_block_ends_at_one_place}
 use Rattle.fluent_syntax_grammar.proofs.FunctionalEntries.{entry_is_functional}
 use Rattle.fluent_syntax_parser.specs.Outcomes.{IsRefusedAs}
 use Rattle.fluent_syntax_parser.specs.Rest.{Attaches}
@@ -33,7 +33,7 @@ module _ (edition : Edition) (t : List ℕ) (content : List Span) (ptr : ℕ) wh
   body_keeps_comment_by_itself none i tiles (done b) = refl
   body_keeps_comment_by_itself none i tiles (next {start = start} {end = end} b l (reads {e = e} read) m) =
       rw (if_of_none_is_none (ptr == start) (attached content e) (λ same.
-      let here = sym (equal ptr start same) in
+      let here = sym (same_by_test ptr start same) in
       none (subst (BlankBlock t ptr) here b) e end (subst (λ k. entry_at edition t k (Read e end)) here read))) refl
   body_keeps_comment_by_itself none i tiles (next b l (refuses x end) m) = refl
 
@@ -61,7 +61,7 @@ module _ (edition : Edition) (t : List ℕ) (content : List Span) (ptr : ℕ) wh
 
   pub attaches_not_after_blank : (start : ℕ) → BlankBlock t ptr start → (start ≡ ptr → ⊥) → AttachesNot
   attaches_not_after_blank start block other = λ none e j read. absurd (other
-      (single_block.same ptr start ptr block none))
+      (blank_block_ends_at_one_place.same ptr start ptr block none))
 
   pub comment_attaches_not_to_other_entry : (e : EntryTree Span) (j : ℕ) → entry_at edition t ptr (Read e j)
       → attached content e ≡ None → AttachesNot

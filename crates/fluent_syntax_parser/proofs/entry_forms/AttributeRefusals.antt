@@ -4,7 +4,7 @@ use Rattle.fluent_syntax_tree.specs.declared.edition.Edition.{Edition}
 use Rattle.fluent_syntax_grammar.specs.Construct.{Refused}
 use Rattle.fluent_syntax_grammar.specs.Entries.{attribute, attribute_of}
 use Rattle.fluent_syntax_grammar.specs.Grammar.{family, within}
-use Rattle.fluent_syntax_grammar.proofs.Boundaries.{text_cuts}
+use Rattle.fluent_syntax_grammar.proofs.Boundaries.{places_in_text_are_boundaries}
 use Rattle.fluent_syntax_grammar.proofs.Nesting.{within_family}
 use Rattle.fluent_syntax_grammar.proofs.SoundEntries.{attribute_is_sound}
 use Rattle.fluent_syntax_grammar.proofs.SoundStrings.{InText}
@@ -31,13 +31,13 @@ module _ (edition : Edition) (t : List ℕ) (n i : ℕ) (f : Fault) (from place 
 
   pub refusal_starts_in_text : from_of f from place ≤ length t
   refusal_starts_in_text =
-      ((attribute_is_sound edition t (InText t) (text_cuts t) {s = i}).holds.on_refused i _ _ _
+      ((attribute_is_sound edition t (InText t) (places_in_text_are_boundaries t) {s = i}).holds.on_refused i _ _ _
       (record { late = omega arith; place = inside }) attribute_is_refused_where_its_fault_is).in_text
 
   -- so the place is not after the one after the text's end
   pub refusal_place_in_text : place ≤ length t + 1
   refusal_place_in_text =
       let fault =
-      (attribute_is_sound edition t (InText t) (text_cuts t) {s = i}).holds.on_refused i _ _ _
+      (attribute_is_sound edition t (InText t) (places_in_text_are_boundaries t) {s = i}).holds.on_refused i _ _ _
       (record { late = omega arith; place = inside }) attribute_is_refused_where_its_fault_is in
       omega (arith, place_precedes_refusal_end f place, fault.one, fault.in_text)

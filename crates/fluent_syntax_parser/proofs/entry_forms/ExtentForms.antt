@@ -15,8 +15,8 @@ use Rattle.fluent_syntax_grammar.specs.Family.{Family}
 use Rattle.fluent_syntax_grammar.specs.Grammar.{family, within}
 use Rattle.fluent_syntax_grammar.specs.Places.{has_byte}
 use Rattle.fluent_syntax_grammar.specs.Tiling.{entry_at, entry_in}
-use Rattle.fluent_syntax_grammar.proofs.HoareTriple.{yields_value}
-use Rattle.fluent_syntax_grammar.proofs.Facts.{append_nothing}
+use Rattle.fluent_syntax_grammar.proofs.HoareTriple.{yields_reads_its_value_in_place}
+use Rattle.fluent_syntax_grammar.proofs.Facts.{append_of_nothing_is_same}
 use Rattle.fluent_syntax_grammar.proofs.FunctionalEntries.{entry_is_functional}
 use Rattle.fluent_syntax_grammar.proofs.Included.{IsIncluded, IsIncludedFamily, pattern_is_included, inclusions}
 use Rattle.fluent_syntax_grammar.proofs.IncludedEntries.{entry_is_included}
@@ -109,7 +109,8 @@ module _ (edition : Edition) (t : List ℕ) (R : Family) where
       (g : GathersRanges i xs j) → {from to : ℕ} → {k : Kind} → attribute_of edition t R j (Refused k from to) →
       HaveAttributeParts edition t R i xs g.items j
   gathered_ranges_are_all_at_refusal i xs j g none =
-      rw (← append_nothing xs, ← append_nothing g.items) (g.parts_hold [] [] j (no_attribute_parts none))
+      rw (← append_of_nothing_is_same xs, ← append_of_nothing_is_same g.items)
+      (g.parts_hold [] [] j (no_attribute_parts none))
 
 -- ---- within a family that is included in another
 
@@ -175,7 +176,8 @@ module _ (t : List ℕ) (i j : ℕ) (e : EntryTree Span) where
   IsComment = (level : Level) × (content : List Span) × (e ≡ comment level content)
 
   read_comment_is_comment : comment_entry t i (Read e j) → IsComment
-  read_comment_is_comment (chosen (goes_on x (goes_on {j = m} y z))) = (_, _, sym (yields_value _ e m j z).0)
+  read_comment_is_comment (chosen (goes_on x (goes_on {j = m} y z))) =
+      (_, _, sym (yields_reads_its_value_in_place _ e m j z).0)
 
   pub hash_is_comment : (edition : Edition) → has_byte t hash i ≡ true → entry_at edition t i (Read e j) → IsComment
   hash_is_comment edition there (chosen x) =

@@ -15,7 +15,7 @@ use Rattle.fluent_syntax_grammar.specs.Grammar.{family, pattern}
 use Rattle.fluent_syntax_grammar.specs.Places.{InlineBlank, has}
 use Rattle.fluent_syntax_grammar.specs.Tokens.{identifier, token}
 use Rattle.fluent_syntax_grammar.proofs.Boundaries.{char_boundaries_are_boundaries}
-use Rattle.fluent_syntax_grammar.proofs.Cuts.{AreBoundaries, has_ascii, name_set_is_ascii}
+use Rattle.fluent_syntax_grammar.proofs.Cuts.{AreBoundaries, byte_of_ascii_set_is_ascii, name_set_is_ascii}
 use Rattle.fluent_syntax_grammar.proofs.Sound.{Ended, IsSpan, Sound, blank_block_is_sound, inline_blank_is_sound}
 use Rattle.fluent_syntax_grammar.proofs.SoundEntries.{attribute_is_sound, pattern_is_sound}
 use Rattle.fluent_syntax_grammar.proofs.SoundWords.{identifier_is_sound, token_is_sound}
@@ -48,7 +48,8 @@ module _ (edition : Edition) (t : List ℕ) (P : ℕ → Type 0) (cuts : AreBoun
   range_of_name_is_span name read =
       let there = tests_imply is_letter is_name_byte (slice_get t name.start) letter_is_name_byte
       (identifier_begins_with_letter t _ _ _ read) in
-      let begins = cuts.before name.start (has_ascii t is_name_byte name.start name_set_is_ascii there) in
+      let begins =
+      cuts.before name.start (byte_of_ascii_set_is_ascii t is_name_byte name.start name_set_is_ascii there) in
       (read_by_sound_construct_has_ended (identifier_is_sound t P cuts) begins read).good
 
   range_of_value_is_span : (i equals : ℕ) (place : Span) (v : Option (PatternTree Span)) → P i →

@@ -66,10 +66,12 @@ module _ (edition : Edition) (t : List ℕ) (R : Family)
       (goes_on blank (goes_on equals (goes_on value (goes_on block (goes_on rest x))))) =
       h _ (goes_on blank (goes_on equals (goes_on value (goes_on block (goes_on rest given)))))
 
-  pub fields_fail : {i : ℕ} {f : ReadFault} → Fails t (fields edition t R) i f → Fails t EntryAfterName i f
-  fields_fail (refused h) = refused (λ k from to s. refused_fields_refuse_entry _ from to k (h k from to s))
-  fields_fail (too_deep h) = too_deep (too_deep_fields_make_entry_too_deep _ h)
-  fields_fail no_memory = no_memory
+  pub entry_after_name_fails_where_fields_fail : {i : ℕ} {f : ReadFault} → Fails t (fields edition t R) i f →
+      Fails t EntryAfterName i f
+  entry_after_name_fails_where_fields_fail (refused h) =
+      refused (λ k from to s. refused_fields_refuse_entry _ from to k (h k from to s))
+  entry_after_name_fails_where_fields_fail (too_deep h) = too_deep (too_deep_fields_make_entry_too_deep _ h)
+  entry_after_name_fails_where_fields_fail no_memory = no_memory
 
 -- ---- the last part of a message
 

@@ -32,8 +32,8 @@ mapped_some_comes_from_some : {A B : Type 0} (g : A → B) (o : Option A) (b : B
 mapped_some_comes_from_some g None b e = cc
 mapped_some_comes_from_some g (Some a) b e = (a, refl, ap (option_item_or b) e)
 
-pub some_cancels : {X : Type 0} (a b : X) → Some a ≡ Some b → a ≡ b
-some_cancels a b e = ap (option_item_or a) e
+pub equal_somes_have_equal_values : {X : Type 0} (a b : X) → Some a ≡ Some b → a ≡ b
+equal_somes_have_equal_values a b e = ap (option_item_or a) e
 
 -- what is taken from the end of a list that holds one item at most
 pub taken_is_only_item : {X : Type 0} (item taken : Option X) (left : List X) →

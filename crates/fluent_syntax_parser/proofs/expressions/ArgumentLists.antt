@@ -38,8 +38,10 @@ use Rattle.fluent_syntax_parser.proofs.scanning.Names.{added_span_names_come_fir
 use Rattle.fluent_syntax_parser.specs.Outcomes.{Fails}
 use Rattle.fluent_syntax_parser.specs.declared.fault.ReadFault.{ReadFault}
 use Rattle.fluent_syntax_parser.specs.Made.{IsMade, made}
-use Rattle.fluent_syntax_parser.proofs.readers.ContinuesFrom.{ContinuesFrom, whole_list_read, one_after}
-use Rattle.fluent_syntax_parser.proofs.readers.Fails.{fails_first, bind_fails_second, fails_no, fails_seen}
+use Rattle.fluent_syntax_parser.proofs.readers.ContinuesFrom.{ContinuesFrom, whole_list_read, many_continues_after_item}
+use Rattle.fluent_syntax_parser.proofs.readers.Fails.{bind_fails_where_first_fails, bind_fails_second}
+use Rattle.fluent_syntax_parser.proofs.readers.Fails.{branch_on_false_fails_where_second_fails}
+use Rattle.fluent_syntax_parser.proofs.readers.Fails.{peek_fails_where_seen_part_fails}
 use Rattle.fluent_syntax_parser.proofs.readers.Fails.{look_is_functional}
 
 pub byte_is_token : (t : List ℕ) (b i : ℕ) → has_byte t b i ≡ true → token t b i (Read tt (i + 1))
@@ -80,11 +82,12 @@ module _ (t : List ℕ) (R : Family) where
       begins_fails h =
           let byte = slice_get-get_or t i 0 within in
           let test = rw byte at no_end in
-          fails_seen (next_argument_at t R names) _ (sym byte) (fails_no test h)
+          peek_fails_where_seen_part_fails (next_argument_at t R names) _ (sym byte)
+          (branch_on_false_fails_where_second_fails test h)
 
       pub argument_fails_with_its_inline : {f : ReadFault} → Fails t (inline_expression t R) i f →
           Fails t (next_argument t R names) i f
-      argument_fails_with_its_inline h = begins_fails (fails_first h)
+      argument_fails_with_its_inline h = begins_fails (bind_fails_where_first_fails h)
 
       module _ (e : InlineTree Span) (j : ℕ) (read : inline_expression t R i (Read e j)) where
         pub named : (name : Span) → argument_name e ≡ Some name → has_byte t colon j ≡ true →
@@ -179,7 +182,8 @@ module _ {S X : Type 0} (t : List ℕ) (R : Family) (f : Span → X) (v : S → 
               (view-NamedArgument v x ∙ rw (same, same_value) refl)
               ∙ sym (map-append (named_map f) g.ns (tree ∷ []));
           beyond =
-              one_after (put_arguments g.ps (g.ns ++ tree ∷ [])) added (bytes_at t name ∷ names_in t names) next
+              many_continues_after_item (put_arguments g.ps (g.ns ++ tree ∷ [])) added
+              (bytes_at t name ∷ names_in t names) next
               g.beyond (next_argument_is_functional t R h (names_in t names)) (named_is_put_last g.ps g.ns name value)
               (named t R (names_in t names) i within no_end e j read name is mark
               (Read (item added (bytes_at t name ∷ names_in t names)) next)
@@ -207,7 +211,7 @@ module _ {S X : Type 0} (t : List ℕ) (R : Family) (f : Span → X) (v : S → 
               ∙ ap (λ z. map (inline_map f) g.ps ++ z ∷ []) same ∙ sym (map-append (inline_map f) g.ps (e ∷ []));
           same_ns = g.same_ns;
           beyond =
-              one_after (put_arguments (g.ps ++ e ∷ []) g.ns) added [] next g.beyond
+              many_continues_after_item (put_arguments (g.ps ++ e ∷ []) g.ns) added [] next g.beyond
               (next_argument_is_functional t R h (names_in t names)) (positional_is_put_last g.ps g.ns e)
               (positional t R (names_in t names) i within no_end e j read is (Read (item added []) next)
               (subst (λ xs. positional_rest t xs e j (Read (item added []) next)) (sym all)

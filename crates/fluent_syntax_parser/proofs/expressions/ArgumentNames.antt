@@ -56,8 +56,10 @@ module _ (t : List ℕ) (i : ℕ) where
   value_read_by_yields_is_its_value : {A : Type 0} {a b : A} {i j : ℕ} → yields a i (Read b j) → b ≡ a
   value_read_by_yields_is_its_value given = refl
 
-  no_named : (e a : InlineTree Span) {k j : ℕ} → is_name a ≡ false → yields a k (Read e j) → Named e
-  no_named e a none h is = absurd (true≢false (sym is ∙ ap is_name (value_read_by_yields_is_its_value h) ∙ none))
+  expression_that_is_no_name_names_nothing : (e a : InlineTree Span) {k j : ℕ} → is_name a ≡ false →
+      yields a k (Read e j) → Named e
+  expression_that_is_no_name_names_nothing e a none h is =
+      absurd (true≢false (sym is ∙ ap is_name (value_read_by_yields_is_its_value h) ∙ none))
 
   bare_message_reference_names_its_identifier : (id : Span) (a : Option Span) →
       is_name (message_reference id a) ≡ true → argument_name (message_reference id a) ≡ Some id
@@ -67,7 +69,7 @@ module _ (t : List ℕ) (i : ℕ) where
   named_reference_is_named_by_identifier : (id : Span) (m : ℕ) → identifier t i (Read id m) → (a : MaybeArguments Span)
       (e : InlineTree Span) (k j : ℕ) → named_reference t id a k (Read e j) → Named e
   named_reference_is_named_by_identifier id m read (some_arguments a) e k j (first test h) is =
-      no_named e (function_reference id a) refl h is
+      expression_that_is_no_name_names_nothing e (function_reference id a) refl h is
   named_reference_is_named_by_identifier id m read (some_arguments a) e k j (second test h) is = elim h [ ]
   named_reference_is_named_by_identifier id m read no_arguments e k j (goes_on {a = a} x h) is = (
     id,
@@ -80,15 +82,20 @@ module _ (t : List ℕ) (i : ℕ) where
 
   module _ (R : Family) where
     by_start : (s : Start) (e : InlineTree Span) (j : ℕ) → inline_of t R s i (Read e j) → Named e
-    by_start quote e j (goes_on {a = v} x h) is = no_named e (string_literal v) refl h is
-    by_start digit e j (goes_on {a = v} x h) is = no_named e (number_literal v) refl h is
-    by_start minus e j (goes_on {a = v} x h) is = no_named e (number_literal v) refl h is
+    by_start quote e j (goes_on {a = v} x h) is =
+        expression_that_is_no_name_names_nothing e (string_literal v) refl h is
+    by_start digit e j (goes_on {a = v} x h) is =
+        expression_that_is_no_name_names_nothing e (number_literal v) refl h is
+    by_start minus e j (goes_on {a = v} x h) is =
+        expression_that_is_no_name_names_nothing e (number_literal v) refl h is
     by_start term e j (goes_on x (goes_on {a = id} y (goes_on {a = a} z (goes_on {a = c} w h)))) is =
-        no_named e (term_reference id a c) refl h is
-    by_start dollar e j (goes_on x (goes_on {a = id} y h)) is = no_named e (variable_reference id) refl h is
+        expression_that_is_no_name_names_nothing e (term_reference id a c) refl h is
+    by_start dollar e j (goes_on x (goes_on {a = id} y h)) is =
+        expression_that_is_no_name_names_nothing e (variable_reference id) refl h is
     by_start letter e j (goes_on {j = m} {a = id} x (goes_on {a = a} y h)) is =
         named_reference_is_named_by_identifier id m x a e _ j h is
-    by_start brace e j (goes_on {a = v} x h) is = no_named e (inline_placeable v) refl h is
+    by_start brace e j (goes_on {a = v} x h) is =
+        expression_that_is_no_name_names_nothing e (inline_placeable v) refl h is
     by_start other e j h is = elim h [ ]
 
     pub argument_name_is_identifier : (e : InlineTree Span) (j : ℕ) → inline_expression t R i (Read e j) → Named e

@@ -10,7 +10,7 @@ use Rattle.fluent_syntax_grammar.specs.Construct.{Construct, Read, More, no_item
 use Rattle.fluent_syntax_grammar.specs.UniqueReading.{IsFunctional}
 use Rattle.fluent_syntax_parser.specs.Gathered.{variants_view}
 use Rattle.fluent_syntax_parser.specs.Made.{IsMade, made}
-use Rattle.fluent_syntax_parser.proofs.readers.ContinuesFrom.{ContinuesFrom, whole_list_read, one_after}
+use Rattle.fluent_syntax_parser.proofs.readers.ContinuesFrom.{ContinuesFrom, whole_list_read, many_continues_after_item}
 
 abbrev pub put_variants : List (VariantTree Span) → VariantTrees Span → VariantTrees Span
 put_variants [] vs = vs
@@ -61,7 +61,8 @@ module _ {S X : Type 0} {t : List ℕ} {next : Bool → Construct (More (Variant
           ∙ ap (λ zs. zs ++ variant_view v x ∷ []) g.same
           ∙ ap (λ z. map (variant_map f) g.items ++ z ∷ []) same ∙ sym (map-append (variant_map f) g.items (a ∷ []));
       beyond =
-          one_after (put_variants (g.items ++ a ∷ [])) a later m g.beyond h (put_variants-append g.items a) read;
+          many_continues_after_item (put_variants (g.items ++ a ∷ [])) a later m g.beyond h
+          (put_variants-append g.items a) read;
     }
 
     -- the list ends

@@ -8,10 +8,11 @@ some_arguments_or b no_arguments = b
 some_arguments_or b (some_arguments c) = c
 
 module _ {X Y : Type 0} (f : X → Y) where
-  pub some_given : (given : MaybeArguments X) {b : ArgumentsTree Y} → some_arguments b ≡ maybe_map f given →
+  pub given_arguments_map_to_given : (given : MaybeArguments X) {b : ArgumentsTree Y} →
+      some_arguments b ≡ maybe_map f given →
       (a : ArgumentsTree X) × (given ≡ some_arguments a) × (b ≡ arguments_map f a)
-  some_given no_arguments e = cc
-  some_given (some_arguments a) {b = b} e = (a, refl, ap (some_arguments_or b) e)
+  given_arguments_map_to_given no_arguments e = cc
+  given_arguments_map_to_given (some_arguments a) {b = b} e = (a, refl, ap (some_arguments_or b) e)
 
   pub optional_arguments_of_none_are_none : (given : MaybeArguments X) → no_arguments ≡ maybe_map f given →
       given ≡ no_arguments

@@ -124,8 +124,9 @@ module _ {S X : Type 0} (v : S → X) where
   inline_but_message_is_no_name =
       claim_of_all_forms_holds_of_inline (λ e. IsNoMessage e → is_name (inline_view v e) ≡ false) no_name_by_form
 
-  pub no_term : (e : InlineExpression S) → IsNoTerm e → is_term_attribute (inline_view v e) ≡ false
-  no_term = claim_of_all_forms_holds_of_inline
+  pub inline_without_term_is_no_term_attribute : (e : InlineExpression S) → IsNoTerm e →
+      is_term_attribute (inline_view v e) ≡ false
+  inline_without_term_is_no_term_attribute = claim_of_all_forms_holds_of_inline
       (λ e. IsNoTerm e → is_term_attribute (inline_view v e) ≡ false) no_term_by_form
 
   pub other_inline_as_selector_has_no_fault : (e : InlineExpression S) → IsNoMessage e → IsNoTerm e → IsNoPlaceable e →

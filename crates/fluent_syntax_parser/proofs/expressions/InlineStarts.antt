@@ -17,7 +17,7 @@ use Rattle.fluent_syntax_parser.specs.Last.{Pushes}
 use Rattle.fluent_syntax_parser.specs.Outcomes.{Fails}
 use Rattle.fluent_syntax_parser.specs.Starts.{start_view}
 use Rattle.fluent_syntax_parser.specs.declared.fault.ReadFault.{ReadFault}
-use Rattle.fluent_syntax_parser.proofs.readers.Fails.{bind_fails_second, fails_seen}
+use Rattle.fluent_syntax_parser.proofs.readers.Fails.{bind_fails_second, peek_fails_where_seen_part_fails}
 use Rattle.fluent_syntax_parser.specs.declared.expression.starts.Start as found
 use Rattle.fluent_syntax_parser.specs.declared.expression.starts.Start.TheVariants as starts
 
@@ -56,11 +56,11 @@ module _ (t : List ℕ) (R : Family) (i : ℕ) where
       start_view s ≡ start t i → {f : ReadFault} → Fails t (inline_expression t R) i f →
       Fails t (peek (start t) (argument_value t R)) i f
   argument_value_fails_as_its_inline s (left is) e h =
-      let e' : quote ≡ start t i = rw is at e in fails_seen (argument_value t R) quote e' h
+      let e' : quote ≡ start t i = rw is at e in peek_fails_where_seen_part_fails (argument_value t R) quote e' h
   argument_value_fails_as_its_inline s (inr (left is)) e h =
-      let e' : digit ≡ start t i = rw is at e in fails_seen (argument_value t R) digit e' h
+      let e' : digit ≡ start t i = rw is at e in peek_fails_where_seen_part_fails (argument_value t R) digit e' h
   argument_value_fails_as_its_inline s (inr (inr is)) e h =
-      let e' : letter ≡ start t i = rw is at e in fails_seen (argument_value t R) letter e' h
+      let e' : letter ≡ start t i = rw is at e in peek_fails_where_seen_part_fails (argument_value t R) letter e' h
 
   value_of_other_start_is_refused : (s : found.Start) → (s ≡ starts.Quote → ⊥) → (s ≡ starts.Digit → ⊥) →
       (s ≡ starts.Letter → ⊥) → argument_value t R (start_view s) i (Refused ExpectedLiteral i (i + 1))
@@ -88,5 +88,5 @@ pub Pushes-named : {S X : Type 0} (v : S → X) (t : List ℕ) (R : Family) (i :
 Pushes-named v t R i f old new (Ok k) (e, read, added) s n c g =
     (e, inline_of_its_start_is_inline t R i letter _ s (goes_on n (goes_on c read)), added)
 Pushes-named v t R i f old new (Err e) h s n c g =
-    fails_seen (inline_of t R) letter s
+    peek_fails_where_seen_part_fails (inline_of t R) letter s
     (bind_fails_second (identifier_is_functional t) n (bind_fails_second (call_is_functional t R g) c h))

@@ -18,9 +18,10 @@ select_is_no_inline h = cc
 
 module _ {S X : Type 0} (v : S → X) where
   -- what was read as that expression
-  pub inline_seen : {d e : Expression S} (x : InlineExpression S) {b : InlineTree X} → d ≡ e →
+  pub inline_expression_is_seen_as_inline : {d e : Expression S} (x : InlineExpression S) {b : InlineTree X} → d ≡ e →
       expression_view v d ≡ inline (inline_view v x) → expression_view v e ≡ inline b → inline_view v x ≡ b
-  inline_seen x {b = b} is seen read = ap (inline_tree_or b) (sym seen ∙ ap (expression_view v) is ∙ read)
+  inline_expression_is_seen_as_inline x {b = b} is seen read =
+      ap (inline_tree_or b) (sym seen ∙ ap (expression_view v) is ∙ read)
 
   -- it is no select
   pub view_of_select_is_no_inline : {d : Expression S} {b : InlineTree X} (e : InlineExpression S)

@@ -51,9 +51,10 @@ module _ {S X : Type 0} (v : S → X) where
   added_placeable_has_equal_tree old new tree (e, pushed, seen) same = (e, pushed, seen ∙ ap placeable same)
 
   -- in a list that is the same
-  pub placed_in : (old : List (PatternElement S)) {new all : List (PatternElement S)} (tree : ExpressionTree X) →
+  pub expression_is_placed_in_equal_list : (old : List (PatternElement S)) {new all : List (PatternElement S)}
+      (tree : ExpressionTree X) →
       all ≡ new → AddsPlaced v old new tree → AddsPlaced v old all tree
-  placed_in old tree same (e, pushed, seen) = (e, same ∙ pushed, seen)
+  expression_is_placed_in_equal_list old tree same (e, pushed, seen) = (e, same ∙ pushed, seen)
 
   -- the placeable that was added represents that expression
   pub element_of_placeable_has_its_tree : (x : Expression S) {e : PatternElement S} {tree : ExpressionTree X} →

@@ -10,7 +10,7 @@ use Rattle.std.specs.declared.cmp.Ordering.{Ordering}
 use Rattle.std.specs.declared.cmp.Ordering.TheVariants.{Equal}
 use Rattle.fluent_syntax_grammar.specs.Arguments.{is_used}
 use Rattle.fluent_syntax_grammar.specs.NameKeys.{NotesAll, is_key}
-use Rattle.fluent_syntax_grammar.proofs.NameKeys.{any_key, inserted_key_notes_its_name}
+use Rattle.fluent_syntax_grammar.proofs.NameKeys.{some_key_equals_name_if_is_key, inserted_key_notes_its_name}
 use Rattle.fluent_syntax_parser.specs.Noted.{Notes}
 
 used_is_not_new : (held used new : Bool) → new ≡ not held → held ≡ used → used ≡ not new
@@ -35,4 +35,5 @@ module _ {K : Type 0} (text : K → List ℕ) where
       new ≡ not (list_any (is_at (λ k. slice_cmp nat_cmp key (text k))) keys) → key ≡ n → NotesAll text keys names →
       is_used n names ≡ not new
   is_used-new keys names key n new e same all =
-      used_is_not_new _ _ _ e (any_key text key keys ∙ ap (λ name. is_key text keys name) same ∙ all n)
+      used_is_not_new _ _ _ e
+      (some_key_equals_name_if_is_key text key keys ∙ ap (λ name. is_key text keys name) same ∙ all n)

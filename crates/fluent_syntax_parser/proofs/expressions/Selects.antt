@@ -49,17 +49,20 @@ module _ (edition : Edition) (t : List ℕ) (R : Family) (e : InlineTree Span) (
   selected (Read vs j) = Read (select e vs) j
   selected (Refused kind from to) = Refused kind from to
 
-  from_arrow : (fault : Option Kind) (o : Outcome (VariantTrees Span)) → arrow_variants edition t R fault i o →
+  variants_after_arrow_make_select : (fault : Option Kind) (o : Outcome (VariantTrees Span)) →
+      arrow_variants edition t R fault i o →
       select_with edition t R e fault i (selected o)
-  from_arrow (Some fault) o (stops (failed is)) = failed is
-  from_arrow (Some fault) o (goes_on start x) = elim start [ ]
-  from_arrow None o (stops (stops a)) = stops (stops a)
-  from_arrow None o (stops (goes_on a (stops b))) = stops (goes_on a (stops b))
-  from_arrow None o (stops (goes_on a (goes_on b (stops c)))) = stops (goes_on a (goes_on b (stops c)))
-  from_arrow None o (stops (goes_on a (goes_on b (goes_on c d)))) = stops (goes_on a (goes_on b (goes_on c (stops d))))
-  from_arrow None (Read vs j) (goes_on (goes_on a (goes_on b (goes_on c d))) x) =
+  variants_after_arrow_make_select (Some fault) o (stops (failed is)) = failed is
+  variants_after_arrow_make_select (Some fault) o (goes_on start x) = elim start [ ]
+  variants_after_arrow_make_select None o (stops (stops a)) = stops (stops a)
+  variants_after_arrow_make_select None o (stops (goes_on a (stops b))) = stops (goes_on a (stops b))
+  variants_after_arrow_make_select None o (stops (goes_on a (goes_on b (stops c)))) =
+      stops (goes_on a (goes_on b (stops c)))
+  variants_after_arrow_make_select None o (stops (goes_on a (goes_on b (goes_on c d)))) =
+      stops (goes_on a (goes_on b (goes_on c (stops d))))
+  variants_after_arrow_make_select None (Read vs j) (goes_on (goes_on a (goes_on b (goes_on c d))) x) =
       goes_on (goes_on a (goes_on b (goes_on c (goes_on d x)))) given
-  from_arrow None (Refused kind from to) (goes_on (goes_on a (goes_on b (goes_on c d))) x) =
+  variants_after_arrow_make_select None (Refused kind from to) (goes_on (goes_on a (goes_on b (goes_on c d))) x) =
       stops (goes_on a (goes_on b (goes_on c (goes_on d x))))
 
   variants_of_select_are_arrow_variants : (o : Outcome (VariantTrees Span)) → variants_of_select edition t R i o →
@@ -80,7 +83,7 @@ module _ (edition : Edition) (t : List ℕ) (R : Family) (e : InlineTree Span) (
 
   fails_from_arrow : (fault : Option Kind) {f : ReadFault} → Fails t (arrow_variants edition t R fault) i f →
       Fails t (select_with edition t R e fault) i f
-  fails_from_arrow fault (refused h) = refused (λ k from to s. from_arrow fault _ (h k from to s))
+  fails_from_arrow fault (refused h) = refused (λ k from to s. variants_after_arrow_make_select fault _ (h k from to s))
   fails_from_arrow fault (too_deep h) =
       too_deep (λ o x. let (p, y) = select_was_made_of_variants_after_arrow fault o x in h p y)
   fails_from_arrow fault no_memory = no_memory
@@ -92,7 +95,8 @@ module _ (edition : Edition) (t : List ℕ) (R : Family) (e : InlineTree Span) (
         arrow_variants edition t R fault i (Read vs j) →
         select_with edition t R e (selector_fault e) i (Read (select e vs) j)
     read_variants_are_read_as_select {j = j} {vs = vs} h =
-        subst (λ x. select_with edition t R e x i (Read (select e vs) j)) is (from_arrow fault _ h)
+        subst (λ x. select_with edition t R e x i (Read (select e vs) j)) is
+        (variants_after_arrow_make_select fault _ h)
 
     pub select_fails_with_its_variants : {f : ReadFault} → Fails t (arrow_variants edition t R fault) i f →
         Fails t (select_with edition t R e (selector_fault e)) i f

@@ -16,9 +16,9 @@ use Rattle.fluent_syntax_grammar.specs.Grammar.{within}
 use Rattle.fluent_syntax_grammar.specs.Layout.{Line, crlf_at, lf_at}
 use Rattle.fluent_syntax_grammar.specs.Lines.{belongs, more_lines, more_pieces, own_line}
 use Rattle.fluent_syntax_grammar.specs.Places.{BlankBlock, InlineBlank, after_eol, has_byte, has_eol, line, no_line}
-use Rattle.fluent_syntax_grammar.proofs.Facts.{byte_exists, equal}
+use Rattle.fluent_syntax_grammar.proofs.Facts.{byte_exists, same_by_test}
 use Rattle.fluent_syntax_grammar.proofs.LineEnds.{no_bytes_no_eol}
-use Rattle.fluent_syntax_grammar.proofs.Tests.{neither_left}
+use Rattle.fluent_syntax_grammar.proofs.Tests.{false_or_left}
 use Rattle.fluent_syntax_parser.proofs.patterns.LineEndings.{line_ending_read}
 use Rattle.fluent_syntax_parser.specs.OneLine.{EndsBlank}
 
@@ -54,7 +54,8 @@ pub lf_is_blank : (t : List ℕ) (i j : ℕ) → j ≡ i + 1 → has_byte t lf i
 lf_is_blank t i j l e =
     let f = byte_exists (λ c. c == lf) (slice_get t i) e in
     let within = slice_get_within t i f.0 f.1 in
-    let same : get_or t i 0 ≡ lf = let h = slice_get-get_or t i 0 within in let b : f.0 ≡ lf = equal f.0 lf f.2 in cc in
+    let same : get_or t i 0 ≡ lf = let h = slice_get-get_or t i 0 within in let b : f.0 ≡ lf =
+    same_by_test f.0 lf f.2 in cc in
     let n : j - i ≡ suc 0 = omega arith in
     rw (range_is_first_byte_and_rest t i j (omega arith) (omega arith) 0 n, same) refl
 
@@ -70,12 +71,12 @@ module _ (t : List ℕ) (k : ℕ) (there : has_byte t lf k ≡ true) where
       let f = byte_exists (λ c. c == lf) (slice_get t k) there in slice_get_within t k f.0 f.1
 
   -- spaces and an LF
-  blank_text : (n i : ℕ) → n ≡ k - i → i ≤ k → ((j : ℕ) → i ≤ j → j < k → has_byte t space j ≡ true) →
+  range_of_spaces_is_blank : (n i : ℕ) → n ≡ k - i → i ≤ k → ((j : ℕ) → i ≤ j → j < k → has_byte t space j ≡ true) →
       is_nonblank (slice_range t i (k + 1)) ≡ false
-  blank_text zero i size l spaces =
+  range_of_spaces_is_blank zero i size l spaces =
       let same : k ≡ i = omega (arith, size, l) in
       lf_is_blank t i (k + 1) (omega (arith, same)) (subst (λ p. has_byte t lf p ≡ true) same there)
-  blank_text (suc m) i size l spaces =
+  range_of_spaces_is_blank (suc m) i size l spaces =
       let some : i < k = omega (arith, size) in
       let f = byte_exists (λ c. c == space) (slice_get t i) (spaces i (omega arith) some) in
       let same : get_or t i 0 ≡ f.0 =
@@ -87,7 +88,8 @@ module _ (t : List ℕ) (k : ℕ) (there : has_byte t lf k ≡ true) where
         same,
         is_nonblank-space f.0 (slice_range t (suc i) (k + 1)) f.2,
       )
-      (blank_text m (suc i) (omega (arith, size)) (omega (arith, some)) (λ j a b. spaces j (omega (arith, a)) b))
+      (range_of_spaces_is_blank m (suc i) (omega (arith, size)) (omega (arith, some))
+      (λ j a b. spaces j (omega (arith, a)) b))
 
 -- ---- lines that are blank
 
@@ -103,13 +105,14 @@ module _ (edition : Edition) (t : List ℕ) (common : Option ℕ) (i k m : ℕ) 
   blank_line_items_cut None same =
       let there = one_byte_eol_is_lf (has_byte t lf k) _ k m eol same in
       let forward = blank.forward in
-      let empty = blank_text t k there 0 (i + (k - i)) (omega (arith, forward)) (omega (arith, forward))
+      let empty = range_of_spaces_is_blank t k there 0 (i + (k - i)) (omega (arith, forward)) (omega (arith, forward))
       (λ j a b. absurd (omega (arith, a, b, forward))) in
       rw (none, empty) refl
   blank_line_items_cut (Some c) same =
       let there = one_byte_eol_is_lf (has_byte t lf k) _ k m eol same in
       let forward = blank.forward in
-      let empty = blank_text t k there (k - (i + min (k - i) c)) (i + min (k - i) c) refl (omega (arith, forward))
+      let empty =
+      range_of_spaces_is_blank t k there (k - (i + min (k - i) c)) (i + min (k - i) c) refl (omega (arith, forward))
       (λ j a b. blank.each j (omega (arith, a)) b) in
       rw (none, empty) refl
 
@@ -120,7 +123,7 @@ module _ (edition : Edition) (t : List ℕ) (common : Option ℕ) (i k m : ℕ) 
         pieces = [];
         ending = if b then lf_at k else crlf_at k;
       }) ++ rest) ≡ []
-  items_of_blank_line_are_cut_by_test true is = blank_line_items_cut common (equal m (k + 1) is)
+  items_of_blank_line_are_cut_by_test true is = blank_line_items_cut common (same_by_test m (k + 1) is)
   items_of_blank_line_are_cut_by_test false is =
       let other : m ≡ k + 1 → ⊥ = λ same. grind (arith, nat_tests) in
       let empty = lf_is_blank t (k + 1) (k + 2) (omega arith)
@@ -208,7 +211,7 @@ module _ (t : List ℕ) {i k : ℕ} (blank : InlineBlank t i k) where
 
   pub block_before_other_line_is_empty : (indented : Bool) → belongs t indented k ≡ false → BlankBlock t i i
   block_before_other_line_is_empty true other =
-      no_line blank (no_bytes_no_eol (has_byte t lf k) _ _ _ (neither_left (has_eol t k) _ other))
+      no_line blank (no_bytes_no_eol (has_byte t lf k) _ _ _ (false_or_left (has_eol t k) _ other))
   block_before_other_line_is_empty false other =
-      let no_brace = neither_left (has_eol t k || has_byte t left_brace k) _ other in
-      no_line blank (no_bytes_no_eol (has_byte t lf k) _ _ _ (neither_left (has_eol t k) _ no_brace))
+      let no_brace = false_or_left (has_eol t k || has_byte t left_brace k) _ other in
+      no_line blank (no_bytes_no_eol (has_byte t lf k) _ _ _ (false_or_left (has_eol t k) _ no_brace))

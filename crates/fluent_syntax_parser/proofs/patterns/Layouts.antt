@@ -30,17 +30,20 @@ module _ {E F : Type 0} (h : E → F) where
       least (flat_map (counted edition) (map (line_map h) y.lines)) ≡ common_indent edition y
   mapping_keeps_common_indent edition y = ap least (mapping_keeps_counted_lines edition y.lines)
 
-  pub ending_mapped : (ps : List (PieceOf E)) (end : Ending) →
+  pub mapped_pieces_keep_their_ending : (ps : List (PieceOf E)) (end : Ending) →
       with_ending (map (piece_map h) ps) end ≡ map (item_map h) (with_ending ps end)
-  ending_mapped [] (lf_at p) = refl
-  ending_mapped [] (crlf_at p) = refl
-  ending_mapped [] text_end = refl
-  ending_mapped (run from to ∷ []) (lf_at p) = refl
-  ending_mapped (run from to ∷ []) (crlf_at p) = refl
-  ending_mapped (run from to ∷ []) text_end = refl
-  ending_mapped (run from to ∷ run a b ∷ ps) end = ap (λ xs. text from to ∷ xs) (ending_mapped (run a b ∷ ps) end)
-  ending_mapped (run from to ∷ placed e ∷ ps) end = ap (λ xs. text from to ∷ xs) (ending_mapped (placed e ∷ ps) end)
-  ending_mapped (placed e ∷ ps) end = ap (λ xs. placeable_item (h e) ∷ xs) (ending_mapped ps end)
+  mapped_pieces_keep_their_ending [] (lf_at p) = refl
+  mapped_pieces_keep_their_ending [] (crlf_at p) = refl
+  mapped_pieces_keep_their_ending [] text_end = refl
+  mapped_pieces_keep_their_ending (run from to ∷ []) (lf_at p) = refl
+  mapped_pieces_keep_their_ending (run from to ∷ []) (crlf_at p) = refl
+  mapped_pieces_keep_their_ending (run from to ∷ []) text_end = refl
+  mapped_pieces_keep_their_ending (run from to ∷ run a b ∷ ps) end =
+      ap (λ xs. text from to ∷ xs) (mapped_pieces_keep_their_ending (run a b ∷ ps) end)
+  mapped_pieces_keep_their_ending (run from to ∷ placed e ∷ ps) end =
+      ap (λ xs. text from to ∷ xs) (mapped_pieces_keep_their_ending (placed e ∷ ps) end)
+  mapped_pieces_keep_their_ending (placed e ∷ ps) end =
+      ap (λ xs. placeable_item (h e) ∷ xs) (mapped_pieces_keep_their_ending ps end)
 
   mapping_keeps_common_indent_end : (common : Option ℕ) (l : LineOf E)
       → common_indent_end common (line_map h l) ≡ common_indent_end common l
@@ -63,9 +66,10 @@ module _ {E F : Type 0} (h : E → F) where
   items_from_mapped_pieces_are_mapped edition kept first [] (lf_at p) = refl
   items_from_mapped_pieces_are_mapped edition kept first [] (crlf_at p) = refl
   items_from_mapped_pieces_are_mapped edition kept first [] text_end = refl
-  items_from_mapped_pieces_are_mapped edition kept first (run from to ∷ ps) end = ending_mapped (run kept to ∷ ps) end
+  items_from_mapped_pieces_are_mapped edition kept first (run from to ∷ ps) end =
+      mapped_pieces_keep_their_ending (run kept to ∷ ps) end
   items_from_mapped_pieces_are_mapped edition kept first (placed e ∷ ps) end =
-      rw (indent_items_map_to_themselves edition kept first, ending_mapped (placed e ∷ ps) end)
+      rw (indent_items_map_to_themselves edition kept first, mapped_pieces_keep_their_ending (placed e ∷ ps) end)
       (sym (map-append (item_map h) (indented edition kept first) (with_ending (placed e ∷ ps) end)))
 
   items_of_mapped_line_are_mapped : (edition : Edition) (common : Option ℕ) (l : LineOf E) →
@@ -86,7 +90,7 @@ module _ {E F : Type 0} (h : E → F) where
   items_of_mapped_opening_are_mapped : (o : Option (LineOf E)) →
       opening_items (option_map (line_map h) o) ≡ map (item_map h) (opening_items o)
   items_of_mapped_opening_are_mapped None = refl
-  items_of_mapped_opening_are_mapped (Some l) = ending_mapped l.pieces l.ending
+  items_of_mapped_opening_are_mapped (Some l) = mapped_pieces_keep_their_ending l.pieces l.ending
 
   pub items_of_mapped_layout_are_mapped : (edition : Edition) (y : LayoutOf E) →
       opening_items (option_map (line_map h) y.opening)

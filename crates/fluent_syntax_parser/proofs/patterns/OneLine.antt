@@ -20,7 +20,7 @@ use Rattle.fluent_syntax_grammar.specs.Layout.{crlf_at, text_end as text_end'}
 use Rattle.fluent_syntax_grammar.specs.Lines.{is_run_place, more_lines, more_pieces, next_piece, text_run, ending}
 use Rattle.fluent_syntax_grammar.specs.Patterns.{layout_at, layout, pattern}
 use Rattle.fluent_syntax_grammar.specs.Places.{BlankBlock, LongestRun, after_eol, has_byte, has_eol, InlineBlank}
-use Rattle.fluent_syntax_grammar.proofs.Facts.{left_true, byte_exists}
+use Rattle.fluent_syntax_grammar.proofs.Facts.{and_gives_left, byte_exists}
 use Rattle.fluent_syntax_grammar.proofs.Tests.{negated_right_is_false}
 use Rattle.fluent_syntax_grammar.proofs.LineEnds.{no_bytes_no_eol}
 use Rattle.fluent_syntax_parser.proofs.patterns.LineEndings.{line_ending_read, ending_without_eol_is_text_end}
@@ -53,7 +53,7 @@ module _ (t : List ℕ) where
         × (not (b == lf || b == left_brace || b == right_brace) ≡ true)
     first_byte_of_run_is_plain =
         byte_exists (λ b. not (b == lf || b == left_brace || b == right_brace)) (slice_get t start)
-        (left_true _ _
+        (and_gives_left _ _
         (w.each start (omega arith) some))
 
     start_of_run_has_no_eol : has_eol t start ≡ false

@@ -29,9 +29,10 @@ use Rattle.fluent_syntax_parser.proofs.patterns.Pieces.{no_piece_is_read_at_end_
 use Rattle.fluent_syntax_parser.proofs.patterns.Pieces.{run_there}
 use Rattle.fluent_syntax_parser.proofs.patterns.Rest.{run_maps_to_itself}
 use Rattle.fluent_syntax_parser.proofs.patterns.Settled.{pieces_with_placeable_last_are_settled, run_and_placed_settled}
-use Rattle.fluent_syntax_parser.proofs.patterns.Settled.{settled_ending}
+use Rattle.fluent_syntax_parser.proofs.patterns.Settled.{settled_pieces_go_before_ending}
 use Rattle.fluent_syntax_parser.proofs.patterns.Settled.{Settled-map}
-use Rattle.fluent_syntax_parser.proofs.readers.ContinuesFrom.{ContinuesFrom, item_fails, whole_list_read, one_after}
+use Rattle.fluent_syntax_parser.proofs.readers.ContinuesFrom.{ContinuesFrom, many_fails_where_item_fails}
+use Rattle.fluent_syntax_parser.proofs.readers.ContinuesFrom.{whole_list_read, many_continues_after_item}
 
 -- The elements are those of pieces up to a placeable, and what there is at the place comes after them.
 pub record MadeOpening {S X : Type 0} (t : List ℕ) (R : Family) (f : Span → X) (v : S → X) (i : ℕ)
@@ -62,7 +63,7 @@ module _ {S X : Type 0} (t : List ℕ) (R : Family) (f : Span → X) (v : S → 
               ContinuesFrom t (λ u. next_piece t R) (λ a rest. a ∷ rest) [] tt i
               (λ more. (pieces ++ (if b then run place to ∷ [] else [])) ++ more) tt to
           by true e =
-              one_after (λ more. (pieces ++ run place to ∷ []) ++ more) (run place to) tt to g h
+              many_continues_after_item (λ more. (pieces ++ run place to ∷ []) ++ more) (run place to) tt to g h
               (λ more. append_assoc pieces (run place to ∷ []) more)
               (longest_run_is_read_as_piece t R place to w (grind (arith, nat_tests)))
           by false e =
@@ -76,7 +77,7 @@ module _ {S X : Type 0} (t : List ℕ) (R : Family) (f : Span → X) (v : S → 
 
       pub opening_fails_with_its_next_piece : {fault : ReadFault} → Fails t (next_piece t R) to fault →
           Fails t (list_of (next_piece t R)) i fault
-      opening_fails_with_its_next_piece x = item_fails beyond_run x
+      opening_fails_with_its_next_piece x = many_fails_where_item_fails beyond_run x
 
       pub opening_is_read_with_its_last_run : next_piece t R to (Read no_item to) →
           list_of (next_piece t R) i (Read (pieces ++ run_of span) to)
@@ -109,7 +110,8 @@ module _ {S X : Type 0} (t : List ℕ) (R : Family) (f : Span → X) (v : S → 
             ∙ ap (λ z. map (piece_element f) (pieces ++ run_of span) ++ z ∷ []) seen
             ∙ sym (map-append (piece_element f) (pieces ++ run_of span) (placed e ∷ []));
         beyond =
-            one_after (λ more. ((pieces ++ run_of span) ++ placed e ∷ []) ++ more) (placed e) tt next beyond_run h
+            many_continues_after_item (λ more. ((pieces ++ run_of span) ++ placed e ∷ []) ++ more) (placed e) tt next
+            beyond_run h
             (λ more. append_assoc (pieces ++ run_of span) (placed e ∷ []) more) read;
       }
 
@@ -206,4 +208,4 @@ module _ {X : Type 0} (f : Span → X) where
       ap (λ qs. with_ending qs end)
       (map-append (piece_of f) ps (run_of s)
       ∙ ap (λ qs. map (piece_of f) ps ++ qs) (run_maps_to_itself (expression_map f) s))
-      ∙ settled_ending (settled_pieces_map_to_settled settled) (run_of s) end
+      ∙ settled_pieces_go_before_ending (settled_pieces_map_to_settled settled) (run_of s) end

@@ -18,7 +18,9 @@ use Rattle.fluent_syntax_grammar.specs.Places.{LongestRun, holds, has_eol, Inlin
 use Rattle.fluent_syntax_grammar.proofs.Functional.{longest_run_is_functional}
 use Rattle.fluent_syntax_parser.specs.Outcomes.{Fails, no_memory, refused, too_deep}
 use Rattle.fluent_syntax_parser.specs.declared.fault.ReadFault.{ReadFault}
-use Rattle.fluent_syntax_parser.proofs.readers.Fails.{fails_no, fails_seen, branch_fails_with_first_when_true}
+use Rattle.fluent_syntax_parser.proofs.readers.Fails.{branch_on_false_fails_where_second_fails}
+use Rattle.fluent_syntax_parser.proofs.readers.Fails.{peek_fails_where_seen_part_fails}
+use Rattle.fluent_syntax_parser.proofs.readers.Fails.{branch_fails_with_first_when_true}
 
 text_byte_passes_run_test : (o : Option ℕ) (b : ℕ) (eol : Bool) → o ≡ Some b → eol ≡ false → (b ≡ right_brace → ⊥) →
     (b ≡ left_brace → ⊥) → (b ≡ lf → ⊥) →
@@ -43,9 +45,10 @@ module _ (t : List ℕ) (R : Family) (i b : ℕ) (e : slice_get t i ≡ Some b) 
       Fails t (placeable t R >>= λ e. yields {A = More Piece (Unit {0})} (item (placed e) tt)) i f →
       Fails t (next_piece t R) i f
   piece_at_brace_fails_as_placeable is h =
-      fails_seen (next_piece_at t R) (Some b) (sym e)
-      (fails_seen _ false (sym eol)
-      (fails_no refl (fails_no (rw is refl) (branch_fails_with_first_when_true (rw is refl) h))))
+      peek_fails_where_seen_part_fails (next_piece_at t R) (Some b) (sym e)
+      (peek_fails_where_seen_part_fails _ false (sym eol)
+      (branch_on_false_fails_where_second_fails refl
+      (branch_on_false_fails_where_second_fails (rw is refl) (branch_fails_with_first_when_true (rw is refl) h))))
 
   module _ (close : b ≡ right_brace → ⊥) (opening : b ≡ left_brace → ⊥) where
     byte_is_no_closing_brace : (b == right_brace) ≡ false
@@ -68,18 +71,18 @@ module _ (t : List ℕ) (R : Family) (i b : ℕ) (e : slice_get t i ≡ Some b) 
     run_there = text_byte_passes_run_test (slice_get t i) b (has_eol t i) e eol close opening plain_byte_is_no_lf
 
 -- a stretch that begins with what it is of
-pub further : (test : ℕ → Bool) (i j : ℕ) → LongestRun test i j → test i ≡ true → i < j
-further test i j w here =
+pub run_that_passes_goes_further : (test : ℕ → Bool) (i j : ℕ) → LongestRun test i j → test i ≡ true → i < j
+run_that_passes_goes_further test i j w here =
     let apart : i ≡ j → ⊥ = λ same. true≢false (sym here ∙ ap test same ∙ w.longest) in
     omega (arith, w.forward, apart)
 
 -- a line is not empty where there is a byte in it
 pub line_takes_bytes : (t : List ℕ) (from end next : ℕ) → from < length t → from ≤ end → end ≤ next →
     (has_eol t end ≡ false → slice_get t end ≡ None) → (has_eol t end ≡ true → end < next) → from < next
-line_takes_bytes t from end next inside forward on stops further = by (has_eol t end) refl
+line_takes_bytes t from end next inside forward on stops run_that_passes_goes_further = by (has_eol t end) refl
   where
     by : (b : Bool) → has_eol t end ≡ b → from < next
-    by true e = omega (arith, further e)
+    by true e = omega (arith, run_that_passes_goes_further e)
     by false e =
         let past : end < length t → ⊥ = λ l. let some = slice_get-get_or t end 0 l in let none = stops e in cc in
         omega (arith, past)

@@ -11,7 +11,7 @@ use Rattle.fluent_syntax_grammar.specs.Layout.{Ending, crlf_at, lf_at, run, text
 use Rattle.fluent_syntax_parser.specs.Elements.{EndsAt, rest_end, run_of, spelled}
 use Rattle.fluent_syntax_parser.specs.Layouts.{item_map, piece_map}
 use Rattle.fluent_syntax_grammar.proofs.backward.Lines.{empty_range_is_empty}
-use Rattle.fluent_syntax_parser.proofs.patterns.Layouts.{ending_mapped}
+use Rattle.fluent_syntax_parser.proofs.patterns.Layouts.{mapped_pieces_keep_their_ending}
 
 module _ {E F : Type 0} (h : E → F) where
   optional_run_maps_to_itself : (b : Bool) (from to : ℕ) →
@@ -25,7 +25,7 @@ module _ {E F : Type 0} (h : E → F) where
   pub run_with_ending_maps_to_itself : (s : Span) (end : Ending) →
       map (item_map h) (with_ending (run_of s) end) ≡ with_ending (run_of s) end
   run_with_ending_maps_to_itself s end =
-      sym (ending_mapped h (run_of s) end) ∙ ap (λ ps. with_ending ps end) (run_maps_to_itself s)
+      sym (mapped_pieces_keep_their_ending h (run_of s) end) ∙ ap (λ ps. with_ending ps end) (run_maps_to_itself s)
 
 -- nothing is left where there is nothing
 pub empty_run_at_text_end_has_no_items : {E : Type 0} (place : ℕ) →

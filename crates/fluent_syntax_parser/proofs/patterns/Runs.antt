@@ -49,10 +49,10 @@ module _ (t : List ℕ) (i m : ℕ) (word : ByteRun t is_passed i m) where
     longest = other_byte_ends_run _ (slice_get t m) word.longest;
   }
 
-  crlf_ends_run : (a b c d : Bool) → c ≡ true → d ≡ true → (a && not (b || c && d)) ≡ false
-  crlf_ends_run true true c d e f = refl
-  crlf_ends_run true false c d e f = rw (e, f) refl
-  crlf_ends_run false b c d e f = refl
+  run_test_fails_at_crlf : (a b c d : Bool) → c ≡ true → d ≡ true → (a && not (b || c && d)) ≡ false
+  run_test_fails_at_crlf true true c d e f = refl
+  run_test_fails_at_crlf true false c d e f = rw (e, f) refl
+  run_test_fails_at_crlf false b c d e f = refl
 
   -- a CRLF ends it, at its LF
   pub run_ends_before_crlf : i < m → has_byte t cr (m - 1) ≡ true → has_byte t lf m ≡ true →
@@ -63,7 +63,7 @@ module _ (t : List ℕ) (i m : ℕ) (word : ByteRun t is_passed i m) where
         forward = omega arith;
         each = λ k a b. place_before_end_is_run_place k a (omega arith) (λ g. absurd (omega arith)) (inl (omega arith));
         longest =
-            crlf_ends_run (has t (λ b. not (b == lf || b == left_brace || b == right_brace)) (m - 1))
+            run_test_fails_at_crlf (has t (λ b. not (b == lf || b == left_brace || b == right_brace)) (m - 1))
             (has_byte t lf (m - 1)) (has_byte t cr (m - 1)) (has_byte t lf (m - 1 + 1)) e
             (rw next f);
       }

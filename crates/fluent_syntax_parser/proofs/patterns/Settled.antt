@@ -23,11 +23,13 @@ module _ {E : Type 0} where
   run_and_placed_settled from to e (by_run s) = by_run (run_and_placed_settled from to e s)
 
   -- they are items, before those of what follows them
-  pub settled_ending : {ps : List (PieceOf E)} → Settled ps → (qs : List (PieceOf E)) (end : Ending) →
+  pub settled_pieces_go_before_ending : {ps : List (PieceOf E)} → Settled ps → (qs : List (PieceOf E)) (end : Ending) →
       with_ending (ps ++ qs) end ≡ map as_item ps ++ with_ending qs end
-  settled_ending none qs end = refl
-  settled_ending (by_placeable {e = e} s) qs end = ap (λ xs. placeable_item e ∷ xs) (settled_ending s qs end)
-  settled_ending (by_run {from = from} {to = to} s) qs end = ap (λ xs. text from to ∷ xs) (settled_ending s qs end)
+  settled_pieces_go_before_ending none qs end = refl
+  settled_pieces_go_before_ending (by_placeable {e = e} s) qs end =
+      ap (λ xs. placeable_item e ∷ xs) (settled_pieces_go_before_ending s qs end)
+  settled_pieces_go_before_ending (by_run {from = from} {to = to} s) qs end =
+      ap (λ xs. text from to ∷ xs) (settled_pieces_go_before_ending s qs end)
 
   cut_keeps_placeable_item : (t : List ℕ) (e : E) (xs : List (ItemOf E)) →
       cut_before t (placeable_item e) xs ≡ placeable_item e ∷ xs

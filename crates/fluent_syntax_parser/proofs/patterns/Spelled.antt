@@ -53,15 +53,18 @@ module _ {X : Type 0} (f : Span → X) where
         ∙ sym (pattern_if_any_is_mapped es)
 
 module _ {X : Type 0} (f : Span → X) (t : List ℕ) where
-  spelled_of : (xs : List Item) →
+  spelled_items_map_to_elements : (xs : List Item) →
       map (element_map f) (grammar.spelled t xs) ≡ spelled f t (map (item_of f) xs)
-  spelled_of [] = refl
-  spelled_of (text from to ∷ []) = refl
-  spelled_of (text from to ∷ text a b ∷ xs) =
-      ap (λ zs. text_element (f (record { start = from; end = to })) ∷ zs) (spelled_of (text a b ∷ xs))
-  spelled_of (text from to ∷ placeable_item e ∷ xs) =
-      ap (λ zs. text_element (f (record { start = from; end = to })) ∷ zs) (spelled_of (placeable_item e ∷ xs))
-  spelled_of (placeable_item e ∷ xs) = ap (λ zs. element_map f (placeable e) ∷ zs) (spelled_of xs)
+  spelled_items_map_to_elements [] = refl
+  spelled_items_map_to_elements (text from to ∷ []) = refl
+  spelled_items_map_to_elements (text from to ∷ text a b ∷ xs) =
+      ap (λ zs. text_element (f (record { start = from; end = to })) ∷ zs)
+      (spelled_items_map_to_elements (text a b ∷ xs))
+  spelled_items_map_to_elements (text from to ∷ placeable_item e ∷ xs) =
+      ap (λ zs. text_element (f (record { start = from; end = to })) ∷ zs)
+      (spelled_items_map_to_elements (placeable_item e ∷ xs))
+  spelled_items_map_to_elements (placeable_item e ∷ xs) =
+      ap (λ zs. element_map f (placeable e) ∷ zs) (spelled_items_map_to_elements xs)
 
   spelled_items_end_with_last_spelled : (xs : List (ItemOf (ExpressionTree X))) (x : ItemOf (ExpressionTree X)) →
       spelled f t (xs ++ x ∷ []) ≡ map (element_of f) xs ++ last_of f t x ∷ []
@@ -88,13 +91,14 @@ module _ {X : Type 0} (f : Span → X) (t : List ℕ) where
         ∙ ap (λ ys. es ++ ys) (sym (spelled_items_end_with_last_spelled xs x) ∙ ap (spelled f t) (sym cuts))
 
   -- the elements of a layout: those of its opening line up to the last placeable there, and those of the rest
-  pub layout_spelled : (edition : Edition) (y : Layout) {ps : List (PieceOf (ExpressionTree X))} → Settled ps →
+  pub layout_is_spelled_by_settled_pieces : (edition : Edition) (y : Layout) {ps : List (PieceOf (ExpressionTree X))} →
+      Settled ps →
       (rest : List (ItemOf (ExpressionTree X))) →
       opening_items (option_map (line_of f) y.opening) ≡ map as_item ps ++ rest →
       (seen : List (LineOf (ExpressionTree X))) → seen ≡ map (line_of f) y.lines →
       map (element_of f) (map as_item ps) ++ spelled f t (cut t (rest ++ dedented_items edition seen))
       ≡ map (element_map f) (grammar.spelled t (cut t (items edition y)))
-  layout_spelled edition y {ps = ps} settled rest opening seen lines =
+  layout_is_spelled_by_settled_pieces edition y {ps = ps} settled rest opening seen lines =
       let beyond = dedented_items edition seen in
       let first = opening_items (option_map (line_of f) y.opening) in
       sym (settled_pieces_are_spelled_as_elements f t settled (rest ++ beyond))
@@ -106,4 +110,4 @@ module _ {X : Type 0} (f : Span → X) (t : List ℕ) where
       (mapping_keeps_common_indent (expression_map f) edition y)
       ∙ items_of_mapped_layout_are_mapped (expression_map f) edition y)
       ∙ ap (spelled f t) (cut_of_mapped_items_is_mapped (expression_map f) t (items edition y))
-      ∙ sym (spelled_of (cut t (items edition y)))
+      ∙ sym (spelled_items_map_to_elements (cut t (items edition y)))

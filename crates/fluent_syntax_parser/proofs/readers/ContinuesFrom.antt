@@ -4,7 +4,7 @@ use Rattle.std.proofs.lemmas.List.{map-append}
 use Rattle.fluent_syntax_grammar.specs.Construct.{Construct, Read, More, no_item, item, many, list_ends, list_stops}
 use Rattle.fluent_syntax_grammar.specs.Construct.{item_and_more, list_of, stops_later}
 use Rattle.fluent_syntax_grammar.specs.UniqueReading.{IsFunctional}
-use Rattle.fluent_syntax_grammar.proofs.Facts.{append_nothing}
+use Rattle.fluent_syntax_grammar.proofs.Facts.{append_of_nothing_is_same}
 use Rattle.fluent_syntax_grammar.proofs.Deeper.{list_is_too_deep_by_first_item, list_is_too_deep_by_later_item}
 use Rattle.fluent_syntax_parser.specs.declared.fault.ReadFault.{ReadFault}
 use Rattle.fluent_syntax_parser.specs.Outcomes.{Fails, refused, too_deep, no_memory}
@@ -27,17 +27,18 @@ item_then_fails t next add none r q j m a h x f no_memory = no_memory
 module _ {A S B : Type 0} {t : List ℕ} {next : S → Construct (More A S)} {add : A → B → B} {none : B} {s : S} {i : ℕ}
     {put : B → B} {r : S} {j : ℕ} where
   -- an item was refused, or nests too deeply
-  pub item_fails : {f : ReadFault} → ContinuesFrom t next add none s i put r j → Fails t (next r) j f →
+  pub many_fails_where_item_fails : {f : ReadFault} → ContinuesFrom t next add none s i put r j → Fails t (next r) j f →
       Fails t (many next add none s) i f
-  item_fails g (refused h) = g.fails _ (refused (λ k from to e. list_stops (h k from to e)))
-  item_fails g (too_deep h) = g.fails _ (too_deep (list_is_too_deep_by_first_item h))
-  item_fails g no_memory = no_memory
+  many_fails_where_item_fails g (refused h) = g.fails _ (refused (λ k from to e. list_stops (h k from to e)))
+  many_fails_where_item_fails g (too_deep h) = g.fails _ (too_deep (list_is_too_deep_by_first_item h))
+  many_fails_where_item_fails g no_memory = no_memory
 
   -- one more item
-  pub one_after : (more_put : B → B) (a : A) (q : S) (m : ℕ) → ContinuesFrom t next add none s i put r j →
+  pub many_continues_after_item : (more_put : B → B) (a : A) (q : S) (m : ℕ) →
+      ContinuesFrom t next add none s i put r j →
       IsFunctional (next r) → ((b : B) → more_put b ≡ put (add a b)) → next r j (Read (item a q) m) →
       ContinuesFrom t next add none s i more_put q m
-  one_after more_put a q m g h same x = record {
+  many_continues_after_item more_put a q m g h same x = record {
     read = λ b end y.
         subst (λ b. many next add none s i (Read b end)) (sym (same b)) (g.read (add a b) end (item_and_more x y));
     fails = λ f y. g.fails f (item_then_fails t next add none r q j m a h x f y);
@@ -76,11 +77,12 @@ module _ {A B X : Type 0} {t : List ℕ} {next : Construct (More A (Unit {0}))} 
           ap (map view) all ∙ map-append view xs (x ∷ []) ∙ ap (λ zs. zs ++ view x ∷ []) g.same
           ∙ ap (λ z. map f g.items ++ z ∷ []) same ∙ sym (map-append f g.items (a ∷ []));
       beyond =
-          one_after (λ more. (g.items ++ a ∷ []) ++ more) a tt m g.beyond h
+          many_continues_after_item (λ more. (g.items ++ a ∷ []) ++ more) a tt m g.beyond h
           (λ more. append_assoc g.items (a ∷ []) more) read;
     }
 
     -- the list ends
     pub items_made_to_end_are_list : (xs : List X) → MadeItems t next f view i xs j → next j (Read no_item m) →
         IsMade (map f) (list_of next) i (map view xs) m
-    items_made_to_end_are_list xs g x = made (whole_list_read g.items m g.beyond (append_nothing g.items) x) g.same
+    items_made_to_end_are_list xs g x =
+        made (whole_list_read g.items m g.beyond (append_of_nothing_is_same g.items) x) g.same

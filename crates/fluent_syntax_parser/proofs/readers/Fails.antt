@@ -33,10 +33,10 @@ use Rattle.fluent_syntax_parser.specs.Outcomes.{Fails, IsRefusedAs, from_of, kin
 use Rattle.fluent_syntax_parser.specs.Outcomes.{no_memory}
 
 module _ {A B : Type 0} {t : List ℕ} {c : Construct A} {d : A → Construct B} {i : ℕ} where
-  pub fails_first : {f : ReadFault} → Fails t c i f → Fails t (c >>= d) i f
-  fails_first (refused h) = refused (λ k from to s. stops (h k from to s))
-  fails_first (too_deep h) = too_deep (bind_is_too_deep_by_first h)
-  fails_first no_memory = no_memory
+  pub bind_fails_where_first_fails : {f : ReadFault} → Fails t c i f → Fails t (c >>= d) i f
+  bind_fails_where_first_fails (refused h) = refused (λ k from to s. stops (h k from to s))
+  bind_fails_where_first_fails (too_deep h) = too_deep (bind_is_too_deep_by_first h)
+  bind_fails_where_first_fails no_memory = no_memory
 
   pub bind_fails_second : {a : A} {j : ℕ} {f : ReadFault} → IsFunctional c → c i (Read a j) → Fails t (d a) j f →
       Fails t (c >>= d) i f
@@ -74,11 +74,12 @@ branch_fails_with_first_when_true e (refused h) = refused (λ k from to s. first
 branch_fails_with_first_when_true e (too_deep h) = too_deep (branch_is_too_deep_when_true e h)
 branch_fails_with_first_when_true e no_memory = no_memory
 
-pub fails_no : {A : Type 0} {t : List ℕ} {test : Bool} {c d : Construct A} {i : ℕ} {f : ReadFault} → test ≡ false →
+pub branch_on_false_fails_where_second_fails : {A : Type 0} {t : List ℕ} {test : Bool} {c d : Construct A} {i : ℕ}
+    {f : ReadFault} → test ≡ false →
     Fails t d i f → Fails t (branch_on test c d) i f
-fails_no e (refused h) = refused (λ k from to s. second e (h k from to s))
-fails_no e (too_deep h) = too_deep (branch_is_too_deep_when_false e h)
-fails_no e no_memory = no_memory
+branch_on_false_fails_where_second_fails e (refused h) = refused (λ k from to s. second e (h k from to s))
+branch_on_false_fails_where_second_fails e (too_deep h) = too_deep (branch_is_too_deep_when_false e h)
+branch_on_false_fails_where_second_fails e no_memory = no_memory
 
 pub peek_fails_with_its_part : {A B : Type 0} {t : List ℕ} {look : ℕ → A} {part : A →
     Construct B} {i : ℕ} {f : ReadFault} → Fails t (part (look i)) i f → Fails t (peek look part) i f
@@ -87,9 +88,11 @@ peek_fails_with_its_part (too_deep h) = too_deep (peek_is_too_deep h)
 peek_fails_with_its_part no_memory = no_memory
 
 -- by what was seen at the place
-pub fails_seen : {A B : Type 0} {t : List ℕ} {look : ℕ → A} (part : A → Construct B) {i : ℕ} {f : ReadFault} (a : A) →
+pub peek_fails_where_seen_part_fails : {A B : Type 0} {t : List ℕ} {look : ℕ → A} (part : A → Construct B) {i : ℕ}
+    {f : ReadFault} (a : A) →
     a ≡ look i → Fails t (part a) i f → Fails t (peek look part) i f
-fails_seen {t = t} part {i = i} {f = f} a e h = peek_fails_with_its_part (subst (λ a. Fails t (part a) i f) e h)
+peek_fails_where_seen_part_fails {t = t} part {i = i} {f = f} a e h =
+    peek_fails_with_its_part (subst (λ a. Fails t (part a) i f) e h)
 
 -- ---- parts with one outcome at most
 
@@ -134,15 +137,16 @@ module _ (edition : Edition) (t : List ℕ) where
   nonzero_is_successor_of_predecessor : (n : ℕ) → (n ≡ 0 → ⊥) → suc (n - 1) ≡ n
   nonzero_is_successor_of_predecessor n e = omega arith
 
-  pub braces : (n i : ℕ) (o : Outcome (ExpressionTree Span)) → (n ≡ 0 → ⊥) →
+  pub expression_in_braces_is_in_family : (n i : ℕ) (o : Outcome (ExpressionTree Span)) → (n ≡ 0 → ⊥) →
       expression edition t (within edition t (n - 1)) i o → (within edition t n).expression i o
-  braces n i o e x = subst (λ n. (within edition t n).expression i o) (nonzero_is_successor_of_predecessor n e)
+  expression_in_braces_is_in_family n i o e x =
+      subst (λ n. (within edition t n).expression i o) (nonzero_is_successor_of_predecessor n e)
       (expression_is_in_next_depth (n - 1) i o x)
 
   pub expression_in_nonzero_depth_fails_alike : {n i : ℕ} {f : ReadFault} → (n ≡ 0 → ⊥) →
       Fails t (expression edition t (within edition t (n - 1))) i f → Fails t (within edition t n).expression i f
   expression_in_nonzero_depth_fails_alike {n = n} {i = i} e (refused h) =
-      refused (λ k from to s. braces n i _ e (h k from to s))
+      refused (λ k from to s. expression_in_braces_is_in_family n i _ e (h k from to s))
   expression_in_nonzero_depth_fails_alike {n = n} {i = i} e (too_deep h) = too_deep
       (subst (λ n. TooDeep (within edition t n).expression i) (nonzero_is_successor_of_predecessor n e)
       (λ o x. h o (expression_in_next_depth_is_expression (n - 1) i o x)))

@@ -12,13 +12,13 @@ use Rattle.fluent_syntax_grammar.specs.Places.{BlankBlock, has_byte}
 use Rattle.fluent_syntax_grammar.specs.Tiling as tiling
 use Rattle.fluent_syntax_grammar.specs.Tiling.{Tile, Tiled, done, next, drops, entry_in, reads, refuses, keeps_tile}
 use Rattle.fluent_syntax_grammar.specs.Tiling.{whole_line}
-use Rattle.fluent_syntax_grammar.proofs.Functional.{single_block}
+use Rattle.fluent_syntax_grammar.proofs.Functional.{blank_block_ends_at_one_place}
 use Rattle.fluent_syntax_grammar.proofs.Nesting.{within_is_functional}
 use Rattle.fluent_syntax_grammar.proofs.OneTiling.{IsOneTile, one_runtime_tile_in, tile_in_functional_family_is_one}
 use Rattle.fluent_syntax_parser.specs.Rest.{GivesTile, TiledHere, TileDeeper, TileIn, are_dropped, at_end, at_tile}
 use Rattle.fluent_syntax_parser.specs.declared.options.Comments.{Comments}
 use Rattle.fluent_syntax_parser.specs.declared.options.Comments.TheVariants.{Kept, Dropped}
-use Rattle.fluent_syntax_parser.proofs.tilings.Rests.{after_block, is_no_bare_comment}
+use Rattle.fluent_syntax_parser.proofs.tilings.Rests.{tiles_after_block_are_tiled, is_no_bare_comment}
 
 -- ---- tiles of whatever kind
 
@@ -26,10 +26,11 @@ module _ (t : List ℕ) (at : (i j : ℕ) → Tile → Type 0) where
   -- after a blank block the tiles are those from its end on
   tiles_after_block_are_here : (i start : ℕ) (tiles : List Tile) → BlankBlock t i start → Tiled t at i tiles →
       TiledHere t at start tiles
-  tiles_after_block_are_here i start tiles block (done all) = at_end (single_block.same i start (length t) block all)
+  tiles_after_block_are_here i start tiles block (done all) =
+      at_end (blank_block_ends_at_one_place.same i start (length t) block all)
   tiles_after_block_are_here i start tiles block
       (next {start = s} {end = end} {tile = tile} {tiles = more} other l x rest) =
-      let same = single_block.same i s start other block in
+      let same = blank_block_ends_at_one_place.same i s start other block in
       at_tile (subst (λ k. k < length t) same l) (subst (λ k. at k end tile) same x) rest
 
 module _ (edition : Edition) (t : List ℕ) (n : ℕ) where
@@ -49,7 +50,8 @@ module _ (edition : Edition) (t : List ℕ) (n : ℕ) where
     pub tile_is_deeper_by_its_text : BlankBlock t i j → TextDeeper edition t (TileIn comments edition t) n i →
         TileDeeper edition t (TileIn comments edition t) n j
     tile_is_deeper_by_its_text block d tiles tiled_here =
-        d tiles (after_block t (TileIn comments edition t (within edition t n)) i j tiles block tiled_here)
+        d tiles (tiles_after_block_are_tiled t (TileIn comments edition t (within edition t n)) i j tiles block
+        tiled_here)
 
     module _ (inside : i < length t) (tile : Tile)
         (there : TileIn comments edition t (within edition t n) i j tile) where
@@ -66,15 +68,18 @@ module _ (edition : Edition) (t : List ℕ) (n : ℕ) where
       one_led d more rest = d (_ ∷ more) (at_tile inside there rest)
 
   -- there is no tile where the entry nests too deeply
-  pub entry_deeper : (comments : Comments) (i : ℕ) → (are_dropped comments ≡ true → has_byte t hash i ≡ false) →
+  pub tile_is_too_deep_where_entry_is : (comments : Comments) (i : ℕ) →
+      (are_dropped comments ≡ true → has_byte t hash i ≡ false) →
       i < length t → TooDeep (entry_in edition t (within edition t n)) i →
       TileDeeper edition t (TileIn comments edition t) n i
-  entry_deeper comments i none inside d tiles (at_end e) = omega (arith, e, inside)
-  entry_deeper Kept i none inside d tiles (at_tile l (reads x) rest) = d _ x
-  entry_deeper Kept i none inside d tiles (at_tile l (refuses x end) rest) = d _ x
-  entry_deeper Dropped i none inside d tiles (at_tile l (drops there line) rest) = let f = none refl in cc
-  entry_deeper Dropped i none inside d tiles (at_tile l (keeps_tile bare (reads x)) rest) = d _ x
-  entry_deeper Dropped i none inside d tiles (at_tile l (keeps_tile bare (refuses x end)) rest) = d _ x
+  tile_is_too_deep_where_entry_is comments i none inside d tiles (at_end e) = omega (arith, e, inside)
+  tile_is_too_deep_where_entry_is Kept i none inside d tiles (at_tile l (reads x) rest) = d _ x
+  tile_is_too_deep_where_entry_is Kept i none inside d tiles (at_tile l (refuses x end) rest) = d _ x
+  tile_is_too_deep_where_entry_is Dropped i none inside d tiles (at_tile l (drops there line) rest) = let f =
+      none refl in cc
+  tile_is_too_deep_where_entry_is Dropped i none inside d tiles (at_tile l (keeps_tile bare (reads x)) rest) = d _ x
+  tile_is_too_deep_where_entry_is Dropped i none inside d tiles (at_tile l (keeps_tile bare (refuses x end)) rest) =
+      d _ x
 
   -- tiles at the text's end: none
   pub no_tile_is_deeper_at_end_of_text : (comments : Comments) (i : ℕ) → i ≡ length t →

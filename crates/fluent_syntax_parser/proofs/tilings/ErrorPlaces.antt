@@ -48,17 +48,17 @@ module _ (t : List ℕ) where
       let after = faults_that_ascend_start_in_text f.slice.end fs up.4 in omega (arith, up.0, up.1)
 
   -- errors of faults which ascend begin within the text
-  pub errors_that_ascend_are_in_text : (from : ℕ) (errors : List ParserError) (fs : List Fault) →
+  pub errors_that_ascend_start_in_text : (from : ℕ) (errors : List ParserError) (fs : List Fault) →
       map fault_of errors ≡ map Some fs → Ascend t from fs → All (λ e. e.pos.start ≤ length t) errors
-  errors_that_ascend_are_in_text from [] fs stated up = All-nil (λ e. e.pos.start ≤ length t)
-  errors_that_ascend_are_in_text from (e ∷ errors) [] stated up = absurd cc
-  errors_that_ascend_are_in_text from (e ∷ errors) (f ∷ fs) stated up =
+  errors_that_ascend_start_in_text from [] fs stated up = All-nil (λ e. e.pos.start ≤ length t)
+  errors_that_ascend_start_in_text from (e ∷ errors) [] stated up = absurd cc
+  errors_that_ascend_start_in_text from (e ∷ errors) (f ∷ fs) stated up =
       let first : fault_of e ≡ Some f = cc in
       let others : map fault_of errors ≡ map Some fs = cc in
       let after = faults_that_ascend_start_in_text f.slice.end fs up.4 in
       let place = error_starts_at_its_fault e f first in
       All-cons (λ e. e.pos.start ≤ length t) e errors (omega (arith, up.3))
-      (errors_that_ascend_are_in_text f.slice.end errors fs others up.4)
+      (errors_that_ascend_start_in_text f.slice.end errors fs others up.4)
 
   -- an error of one of some faults which ascend begins within the text
   error_among_ascending_is_in_text : (before : List (Option Fault)) (error : ParserError) (after : List (Option Fault))
@@ -101,7 +101,7 @@ module _ (t : List ℕ) where
         Ascend t 0 (faults tiles) → Answers text whole tiles result → ErrorsInText t result
     errors_of_answer_are_in_text tiles (Ok tree) up given = tt
     errors_of_answer_are_in_text tiles (Err (Syntax tree errors)) up (same, stated, some) =
-        errors_that_ascend_are_in_text 0 errors.items (faults tiles) stated up
+        errors_that_ascend_start_in_text 0 errors.items (faults tiles) stated up
     errors_of_answer_are_in_text tiles (Err Memory) up given = tt
 
     module _ (edition : Edition) (result : Result (Resource S) (ParseFault S)) where

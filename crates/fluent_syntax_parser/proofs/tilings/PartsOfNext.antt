@@ -16,7 +16,7 @@ use Rattle.fluent_syntax_grammar.specs.Tiling.{Fault}
 use Rattle.fluent_syntax_parser.specs.Rest.{EntryTo, NextTo, ReadSoFar, faults_of, tree_of}
 use Rattle.fluent_syntax_parser.proofs.tilings.PartsOfEntries.{entry_of_rest_has_parts_in_text}
 use Rattle.fluent_syntax_parser.proofs.tilings.PartsOfEntries.{rest_of_text_has_entries}
-use Rattle.fluent_syntax_parser.proofs.tilings.Rests.{entry_to}
+use Rattle.fluent_syntax_parser.proofs.tilings.Rests.{entry_at_leads_to_its_end}
 use Rattle.fluent_syntax_parser.specs.declared.options.Comments.{Comments}
 
 module _ (t : List ℕ) where
@@ -41,5 +41,5 @@ module _ (t : List ℕ) where
     next_entry_has_parts_in_text i start j (Ok None) inside reached next = tt
     next_entry_has_parts_in_text i start j (Ok (Some read)) inside reached next =
         entry_read_so_far_has_parts_in_text i j (tree_of read.0) (faults_of read.1) inside reached
-        (entry_to comments edition t i start j (tree_of read.0) (faults_of read.1) next)
+        (entry_at_leads_to_its_end comments edition t i start j (tree_of read.0) (faults_of read.1) next)
     next_entry_has_parts_in_text i start j (Err e) inside reached next = tt

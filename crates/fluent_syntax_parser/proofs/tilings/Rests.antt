@@ -60,9 +60,10 @@ faults-cons dropped more = refl
 -- ---- the rest from place to place
 
 module _ (t : List ℕ) (at : (i j : ℕ) → Tile → Type 0) where
-  pub after_block : (i j : ℕ) (tiles : List Tile) → BlankBlock t i j → TiledHere t at j tiles → Tiled t at i tiles
-  after_block i j tiles block (at_end e) = done (subst (BlankBlock t i) e block)
-  after_block i j tiles block (at_tile l x more) = next block l x more
+  pub tiles_after_block_are_tiled : (i j : ℕ) (tiles : List Tile) → BlankBlock t i j → TiledHere t at j tiles →
+      Tiled t at i tiles
+  tiles_after_block_are_tiled i j tiles block (at_end e) = done (subst (BlankBlock t i) e block)
+  tiles_after_block_are_tiled i j tiles block (at_tile l x more) = next block l x more
 
 module _ (comments : Comments) (edition : Edition) (t : List ℕ) where
   pub end_of_text_has_empty_rest : (i : ℕ) → i ≡ length t → RestAt comments edition t i [] []
@@ -72,7 +73,8 @@ module _ (comments : Comments) (edition : Edition) (t : List ℕ) where
       BlankBlock t i j → RestAt comments edition t j entries errors → Rest comments edition t i entries errors
   rest_holds_from_block_before i j entries errors block rest = record {
     tiles = rest.tiles;
-    tiled = after_block t (TileIn comments edition t (family edition t)) i j rest.tiles block rest.tiled_here;
+    tiled = tiles_after_block_are_tiled t (TileIn comments edition t (family edition t)) i j rest.tiles block
+        rest.tiled_here;
     yields = rest.yields;
     errors_are = rest.errors_are;
   }
@@ -150,35 +152,39 @@ module _ (edition : Edition) (t : List ℕ) (n i j : ℕ) (inside : i < length t
   comment_tile_is_there : TileAt edition t i j tile.tile
   comment_tile_is_there = TileAt-within edition t n i j tile.tile tile.in_place
 
-  pub is_comment : tile.tile ≡ entry (record { start = i; end = j }) (comment regular content)
-  is_comment = comment_tile_is_its_entry edition t i j tile.tile content comment_tile_is_there
+  pub tile_is_regular_comment : tile.tile ≡ entry (record { start = i; end = j }) (comment regular content)
+  tile_is_regular_comment = comment_tile_is_its_entry edition t i j tile.tile content comment_tile_is_there
       (tile.entry ∙ ap (λ x. x ∷ []) same)
 
   -- a comment begins with `#`
   pub is_no_bare_comment : has_byte t hash i ≡ false → ⊥
   is_no_bare_comment none =
-      subst IsBareTile is_comment (tile_off_hash_is_bare edition t i j tile.tile none comment_tile_is_there)
+      subst IsBareTile tile_is_regular_comment
+      (tile_off_hash_is_bare edition t i j tile.tile none comment_tile_is_there)
 
-  pub rest_comment : (comments : Comments) → (are_dropped comments ≡ true → has_byte t hash i ≡ false) →
+  pub rest_begins_with_entry_with_comment : (comments : Comments) →
+      (are_dropped comments ≡ true → has_byte t hash i ≡ false) →
       (with_comment : EntryTree Span) (k : ℕ) → Attaches edition t content j with_comment k →
       (entries : BodyTree Span) (errors : List (Option Fault)) → Rest comments edition t k entries errors →
       RestAt comments edition t i (with_comment ∷ entries) (faults_of error ++ errors)
-  rest_comment Kept none with_comment k after entries errors rest =
+  rest_begins_with_entry_with_comment Kept none with_comment k after entries errors rest =
       let beyond = after i entries errors rest in
       record {
         tiles = tile.tile ∷ beyond.0;
         tiled_here = at_tile inside comment_tile_is_there beyond.1;
-        yields = ap (λ x. body (x ∷ beyond.0)) is_comment ∙ beyond.2;
+        yields = ap (λ x. body (x ∷ beyond.0)) tile_is_regular_comment ∙ beyond.2;
         errors_are = rw (faults-cons tile.tile beyond.0, tile.errors, beyond.3) refl;
       }
-  rest_comment Dropped none with_comment k after entries errors rest = absurd (is_no_bare_comment (none refl))
+  rest_begins_with_entry_with_comment Dropped none with_comment k after entries errors rest =
+      absurd (is_no_bare_comment (none refl))
 
 -- ---- entries, one after the other
 
 module _ (comments : Comments) (edition : Edition) (t : List ℕ) where
-  pub entry_to : (i start j : ℕ) (e : EntryTree Span) (stated : List (Option Fault)) →
+  pub entry_at_leads_to_its_end : (i start j : ℕ) (e : EntryTree Span) (stated : List (Option Fault)) →
       EntryAt comments edition t i start j e stated → EntryTo comments edition t i j e stated
-  entry_to i start j e stated there = λ entries errors rest. there.before _ _ (there.in_place entries errors rest)
+  entry_at_leads_to_its_end i start j e stated there =
+      λ entries errors rest. there.before _ _ (there.in_place entries errors rest)
 
   pub start_of_text_is_read_so_far : ReadSoFar comments edition t 0
   start_of_text_is_read_so_far = record { entries = []; errors = []; rest = λ others more rest. rest }
@@ -199,4 +205,4 @@ module _ (comments : Comments) (edition : Edition) (t : List ℕ) where
       EntryAt comments edition t i start j e stated → ∥ ReadSoFar comments edition t i ∥₁ →
       ∥ ReadSoFar comments edition t j ∥₁
   end_of_entry_past_block_is_read_so_far i start j e stated there reached =
-      ∥∥₁_map reached (end_of_entry_is_read_so_far i j e stated (entry_to i start j e stated there))
+      ∥∥₁_map reached (end_of_entry_is_read_so_far i j e stated (entry_at_leads_to_its_end i start j e stated there))

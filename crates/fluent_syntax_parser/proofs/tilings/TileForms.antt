@@ -7,9 +7,9 @@ use Rattle.fluent_syntax_tree.specs.declared.spans.Span.{Span}
 use Rattle.fluent_syntax_grammar.specs.Construct.{Read}
 use Rattle.fluent_syntax_grammar.specs.Grammar.{family, within}
 use Rattle.fluent_syntax_grammar.specs.Tiling.{entry_in, Tile, JunkEnd, failing_place, TileAt, reads, refuses}
-use Rattle.fluent_syntax_grammar.proofs.Boundaries.{text_cuts}
+use Rattle.fluent_syntax_grammar.proofs.Boundaries.{places_in_text_are_boundaries}
 use Rattle.fluent_syntax_grammar.proofs.SoundStrings.{InText}
-use Rattle.fluent_syntax_grammar.proofs.SoundTiling.{refused_entry_has_entry_fault, tile_good}
+use Rattle.fluent_syntax_grammar.proofs.SoundTiling.{refused_entry_has_entry_fault, tile_at_place_is_ended_tile}
 use Rattle.fluent_syntax_grammar.proofs.IncludedEntries.{entry_is_included}
 use Rattle.fluent_syntax_grammar.proofs.Nesting.{within_family}
 use Rattle.fluent_syntax_parser.specs.Faults.{fault_of, refused_as}
@@ -28,7 +28,9 @@ fault_fails_at_its_place t f from place = refl
 module _ (edition : Edition) (t : List ℕ) (i j : ℕ) (inside : i < length t) where
   pub tile_is_inside_text : (tile : Tile) → TileAt edition t i j tile → (i < j) × (j ≤ length t)
   tile_is_inside_text tile in_place =
-      let ended = tile_good edition t (InText t) (text_cuts t) i j tile (omega (arith, inside)) inside in_place in
+      let ended =
+      tile_at_place_is_ended_tile edition t (InText t) (places_in_text_are_boundaries t) i j tile
+      (omega (arith, inside)) inside in_place in
       (ended.onward, ended.place)
 
   pub read_entry_gives_tile : (n : ℕ) (e : EntryTree Span) → entry_in edition t (within edition t n) i (Read e j) →
@@ -39,7 +41,9 @@ module _ (edition : Edition) (t : List ℕ) (i j : ℕ) (inside : i < length t) 
     pub refusal_is_in_text : r.place ≤ length t
     refusal_is_in_text =
         let same = fault_fails_at_its_place t r.fault r.from r.place in
-        let here = refused_entry_has_entry_fault edition t (InText t) (text_cuts t) i _ _ _ (omega (arith, inside))
+        let here =
+        refused_entry_has_entry_fault edition t (InText t) (places_in_text_are_boundaries t) i _ _ _
+        (omega (arith, inside))
         ((entry_is_included edition t (within edition t n) (family edition t) (within_family edition t n)).part i _
         (refused _ _ _ (refl, refl, refl))) in
         omega (arith, same, here.in_text)

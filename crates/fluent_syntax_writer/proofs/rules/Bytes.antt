@@ -9,8 +9,8 @@ use Rattle.fluent_syntax_grammar.specs.Lanes.{is_passed}
 use Rattle.fluent_syntax_grammar.specs.PatternTexts.{is_brace, is_empty, has_crlf}
 use Rattle.fluent_syntax_grammar.specs.Readable.{is_text}
 use Rattle.fluent_syntax_grammar.specs.Written.{Text, has_lf}
-use Rattle.fluent_syntax_grammar.proofs.Facts.{equal}
-use Rattle.fluent_syntax_grammar.proofs.Tests.{and_with_false_is_false, neither_left, neither_right}
+use Rattle.fluent_syntax_grammar.proofs.Facts.{same_by_test}
+use Rattle.fluent_syntax_grammar.proofs.Tests.{and_with_false_is_false, false_or_left, false_or_right}
 use Rattle.fluent_syntax_writer.specs.Texts.{ends_in_crlf}
 
 -- whether an LF directly follows a CR, which may be before the text
@@ -30,7 +30,7 @@ holds_by_lf_or_other : (P : ℕ → Type 0) → P lf → ((b : ℕ) → (b == lf
 holds_by_lf_or_other P one other b = at (b == lf) refl
   where
     at : (is : Bool) → (b == lf) ≡ is → P b
-    at true e = subst P (sym (equal b lf e)) one
+    at true e = subst P (sym (same_by_test b lf e)) one
     at false e = other b e
 
 without_last_lf_keeps_braces : (v : Text) → list_any is_brace (without_last_lf v) ≡ list_any is_brace v
@@ -65,8 +65,8 @@ crlf_is_last (b ∷ c ∷ []) none =
     holds_by_lf_or_other (λ d. has_crlf (b ∷ d ∷ []) ≡ ends_in_crlf (b ∷ d ∷ [])) (last_lf_makes_crlf (b == cr))
     (λ d other. rw (other, and_with_false_is_false (b == cr)) refl) c
 crlf_is_last (b ∷ c ∷ d ∷ bs) none =
-    let rest = neither_right (b == lf) _ none in
-    let other = neither_left (c == lf) (has_lf (without_last_lf (d ∷ bs))) rest in
+    let rest = false_or_right (b == lf) _ none in
+    let other = false_or_left (c == lf) (has_lf (without_last_lf (d ∷ bs))) rest in
     rw (other, and_with_false_is_false (b == cr)) (crlf_is_last (c ∷ d ∷ bs) rest)
 
 tests_by_parts_agree : (placeable_item braces lfs crlf at_end : Bool) → (lfs ≡ false → crlf ≡ at_end)

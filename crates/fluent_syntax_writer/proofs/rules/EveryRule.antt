@@ -31,7 +31,8 @@ use Rattle.fluent_syntax_writer.specs.declared.canonical.rules.Rule.{Rule}
 use Rattle.fluent_syntax_writer.specs.declared.canonical.rules.Rule.TheVariants as rule
 use Rattle.fluent_syntax_writer.proofs.rules.Named.{are_named_well_by_parts}
 use Rattle.fluent_syntax_writer.proofs.rules.Sets.{and_is_associative, and_with_true_is_same}
-use Rattle.fluent_syntax_grammar.proofs.RuleConjunction.{ArePartsOf, both_pass, true_holds_of_all_parts}
+use Rattle.fluent_syntax_grammar.proofs.RuleConjunction.{ArePartsOf, all_of_both_is_both_of_all}
+use Rattle.fluent_syntax_grammar.proofs.RuleConjunction.{true_holds_of_all_parts}
 use Rattle.fluent_syntax_grammar.proofs.RuleConjunction.{entry_obeys_each}
 
 -- ---- What is asked of a node
@@ -59,18 +60,20 @@ asked_is_all_asks (k ∷ ks) asker passes =
     ∙ ap (λ b. asks asker k passes && b) (asked_is_all_asks ks asker passes)
 
 module _ {ks : List Rule} where
-  one : (asker : Rule) (passes : Bool) → Are ks (λ k. asks asker k passes) (asked ks asker passes)
-  one asker passes = record { each = asked_is_all_asks ks asker passes }
+  asked_rule_passes_in_set : (asker : Rule) (passes : Bool) → Are ks (λ k. asks asker k passes) (asked ks asker passes)
+  asked_rule_passes_in_set asker passes = record { each = asked_is_all_asks ks asker passes }
 
   true_is_right_by_each_rule : Are ks (λ k. true) true
   true_is_right_by_each_rule = record { each = true_holds_of_all_parts ks }
 
   -- of two parts of a node, or of two tests
-  both : {a b : Rule → Bool} {x y : Bool} → Are ks a x → Are ks b y → Are ks (λ k. a k && b k) (x && y)
-  both {a} {b} m n = record { each = rw (m.each, n.each) (sym (both_pass a b ks)) }
+  conjunction_passes_in_both_sets : {a b : Rule → Bool} {x y : Bool} → Are ks a x → Are ks b y →
+      Are ks (λ k. a k && b k) (x && y)
+  conjunction_passes_in_both_sets {a} {b} m n =
+      record { each = rw (m.each, n.each) (sym (all_of_both_is_both_of_all a b ks)) }
 
-  by : {a : Rule → Bool} {x y : Bool} → x ≡ y → Are ks a y → Are ks a x
-  by same m = record { each = same ∙ m.each }
+  equal_tests_pass_in_same_sets : {a : Rule → Bool} {x y : Bool} → x ≡ y → Are ks a y → Are ks a x
+  equal_tests_pass_in_same_sets same m = record { each = same ∙ m.each }
 
 and_of_four_is_associative : (a b c d : Bool) → (a && (b && (c && d))) ≡ (((a && b) && c) && d)
 and_of_four_is_associative a b c d = sym (and_is_associative (a && b) c d ∙ and_is_associative a b (c && d))
@@ -89,8 +92,10 @@ module _ (more : List Rule) where
       ((are_lines content && asked more rule.EmptyComment (has_line content))
       && asked more rule.BlankCommentLine (list_all is_plain_line content))
   comment_is_right_by_each_rule content =
-      both (both (one rule.LfInComment (are_lines content)) (one rule.EmptyComment (has_line content)))
-      (one rule.BlankCommentLine (list_all is_plain_line content))
+      conjunction_passes_in_both_sets
+      (conjunction_passes_in_both_sets (asked_rule_passes_in_set rule.LfInComment (are_lines content))
+      (asked_rule_passes_in_set rule.EmptyComment (has_line content)))
+      (asked_rule_passes_in_set rule.BlankCommentLine (list_all is_plain_line content))
 
   -- ---- Patterns
 
@@ -98,23 +103,28 @@ module _ (more : List Rule) where
   spelling_is_right_by_each_rule v =
       let brace = not (list_any is_brace v) in
       let lf = not (has_lf (without_last_lf v)) in
-      by (and_of_four_is_associative (not (is_empty v)) brace (not (has_crlf v)) lf)
-      (both (both (both (one rule.EmptyText (not (is_empty v))) (one rule.BraceInText brace))
-      (one rule.CrBeforeLf (not (has_crlf v)))) (one rule.LfWithinText lf))
+      equal_tests_pass_in_same_sets (and_of_four_is_associative (not (is_empty v)) brace (not (has_crlf v)) lf)
+      (conjunction_passes_in_both_sets
+      (conjunction_passes_in_both_sets
+      (conjunction_passes_in_both_sets (asked_rule_passes_in_set rule.EmptyText (not (is_empty v)))
+      (asked_rule_passes_in_set rule.BraceInText brace))
+      (asked_rule_passes_in_set rule.CrBeforeLf (not (has_crlf v)))) (asked_rule_passes_in_set rule.LfWithinText lf))
 
   module _ (edition : Edition) where
     place_is_right_by_each_rule : (multiline : Bool) (s : ElementPosition) (v : Text) (es : PatternTree Text)
         → Are ks (λ k. place_keeps edition k multiline s v es) (may_occur_at edition multiline s v es)
     place_is_right_by_each_rule true opening v es =
-        by (sym (and_with_true_is_same (may_begin edition true v es)))
-        (both (one rule.BlankFirstText (may_begin edition true v es)) (one rule.LeadingSpace (is_tight true v)))
+        equal_tests_pass_in_same_sets (sym (and_with_true_is_same (may_begin edition true v es)))
+        (conjunction_passes_in_both_sets (asked_rule_passes_in_set rule.BlankFirstText (may_begin edition true v es))
+        (asked_rule_passes_in_set rule.LeadingSpace (is_tight true v)))
     place_is_right_by_each_rule false opening v es =
-        by (ap (λ b. b && not (begins_with_space v)) (or_false (is_nonblank v)))
-        (both (one rule.BlankFirstText (may_begin edition false v es)) (one rule.LeadingSpace (is_tight false v)))
+        equal_tests_pass_in_same_sets (ap (λ b. b && not (begins_with_space v)) (or_false (is_nonblank v)))
+        (conjunction_passes_in_both_sets (asked_rule_passes_in_set rule.BlankFirstText (may_begin edition false v es))
+        (asked_rule_passes_in_set rule.LeadingSpace (is_tight false v)))
     place_is_right_by_each_rule multiline after_line v es =
-        both (one rule.LineOfSpaces (may_begin_line edition v es))
-        (one rule.MarkedLine (not (begins_with_mark (after_spaces v))))
-    place_is_right_by_each_rule multiline within_line v es = one rule.TextAfterText false
+        conjunction_passes_in_both_sets (asked_rule_passes_in_set rule.LineOfSpaces (may_begin_line edition v es))
+        (asked_rule_passes_in_set rule.MarkedLine (not (begins_with_mark (after_spaces v))))
+    place_is_right_by_each_rule multiline within_line v es = asked_rule_passes_in_set rule.TextAfterText false
     place_is_right_by_each_rule multiline after_placeable v es = true_is_right_by_each_rule
 
     texts_are_right_by_each_rule : (multiline : Bool) (s : ElementPosition) (p : PatternTree Text)
@@ -123,10 +133,14 @@ module _ (more : List Rule) where
     texts_are_right_by_each_rule multiline s (elements (placeable e) es) =
         texts_are_right_by_each_rule multiline after_placeable es
     texts_are_right_by_each_rule multiline s (elements (text_element v) es) =
-        by (and_of_four_is_associative (is_text v) (may_occur_at edition multiline s v es) (may_precede v es)
+        equal_tests_pass_in_same_sets
+        (and_of_four_is_associative (is_text v) (may_occur_at edition multiline s v es) (may_precede v es)
         (are_elements edition multiline (position_after v) es))
-        (both (both (both (spelling_is_right_by_each_rule v) (place_is_right_by_each_rule multiline s v es))
-        (one rule.BlankEnd (may_precede v es)))
+        (conjunction_passes_in_both_sets
+        (conjunction_passes_in_both_sets
+        (conjunction_passes_in_both_sets (spelling_is_right_by_each_rule v)
+        (place_is_right_by_each_rule multiline s v es))
+        (asked_rule_passes_in_set rule.BlankEnd (may_precede v es)))
         (texts_are_right_by_each_rule multiline (position_after v) es))
 
     -- what is asked of the lines
@@ -136,8 +150,8 @@ module _ (more : List Rule) where
 
     flush_is_right_by_each_rule : (o : Option ℕ) (s : ElementPosition) (p : PatternTree Text)
         → Are ks (λ k. flush_keeps k o s p) (flush_asked o s p)
-    flush_is_right_by_each_rule (Some n) s p = one rule.CommonIndent (n == 0)
-    flush_is_right_by_each_rule None s p = one rule.SpacesOnBlankLine (are_lone s p)
+    flush_is_right_by_each_rule (Some n) s p = asked_rule_passes_in_set rule.CommonIndent (n == 0)
+    flush_is_right_by_each_rule None s p = asked_rule_passes_in_set rule.SpacesOnBlankLine (are_lone s p)
 
     abbrev lines_asked : (multiline : Bool) → PatternTree Text → Bool
     lines_asked multiline p =
@@ -149,7 +163,7 @@ module _ (more : List Rule) where
         → Are ks (λ k. lines_keep edition k multiline p) (lines_asked multiline p)
     lines_are_right_by_each_rule false p = true_is_right_by_each_rule
     lines_are_right_by_each_rule true p =
-        both (one rule.HiddenMark (not (hides_mark p)))
+        conjunction_passes_in_both_sets (asked_rule_passes_in_set rule.HiddenMark (not (hides_mark p)))
         (flush_is_right_by_each_rule (least (line_indents edition (first_position p) p)) (first_position p) p)
 
     pattern_test_is_of_its_form : (p : PatternTree Text)
@@ -160,8 +174,10 @@ module _ (more : List Rule) where
     pattern_is_right_by_each_rule : (p : PatternTree Text)
         → Are ks (λ k. pattern_keeps edition k p) (is_pattern edition p && lines_asked (is_multiline p) p)
     pattern_is_right_by_each_rule p =
-        by (ap (λ b. b && lines_asked (is_multiline p) p) (pattern_test_is_of_its_form p))
-        (both (both (one rule.EmptyPattern (has_element p)) (texts_are_right_by_each_rule (is_multiline p) opening p))
+        equal_tests_pass_in_same_sets (ap (λ b. b && lines_asked (is_multiline p) p) (pattern_test_is_of_its_form p))
+        (conjunction_passes_in_both_sets
+        (conjunction_passes_in_both_sets (asked_rule_passes_in_set rule.EmptyPattern (has_element p))
+        (texts_are_right_by_each_rule (is_multiline p) opening p))
         (lines_are_right_by_each_rule (is_multiline p) p))
 
   -- ---- Expressions and arguments
@@ -170,13 +186,17 @@ module _ (more : List Rule) where
       → Are ks (λ k. expression_keeps k (select e vs))
       (is_expression (select e vs) && asked more rule.NoDefault (nat_le 1 (defaults vs)))
   select_is_right_by_each_rule e vs =
-      both (both (one rule.ForbiddenSelector (is_none (selector_fault e)))
-      (one rule.SecondDefault (nat_le (defaults vs) 1))) (one rule.NoDefault (nat_le 1 (defaults vs)))
+      conjunction_passes_in_both_sets
+      (conjunction_passes_in_both_sets
+      (asked_rule_passes_in_set rule.ForbiddenSelector (is_none (selector_fault e)))
+      (asked_rule_passes_in_set rule.SecondDefault (nat_le (defaults vs) 1)))
+      (asked_rule_passes_in_set rule.NoDefault (nat_le 1 (defaults vs)))
 
   arguments_are_right_by_each_rule : (a : ArgumentsTree Text) → Are ks (λ k. arguments_keep k a) (are_arguments a)
   arguments_are_right_by_each_rule (arguments ps ns) =
-      by (are_named_well_by_parts [] ns)
-      (both (one rule.ForbiddenArgument (have_values ns)) (one rule.RepeatedArgument (have_new_names [] ns)))
+      equal_tests_pass_in_same_sets (are_named_well_by_parts [] ns)
+      (conjunction_passes_in_both_sets (asked_rule_passes_in_set rule.ForbiddenArgument (have_values ns))
+      (asked_rule_passes_in_set rule.RepeatedArgument (have_new_names [] ns)))
 
 -- ---- Readable trees
 
@@ -193,19 +213,21 @@ readable_rules_judge_pattern : (edition : Edition) (p : PatternTree Text)
     → Are readable (λ k. pattern_keeps edition k p) (is_pattern edition p)
 readable_rules_judge_pattern edition p =
     let number = least (line_indents edition (first_position p) p) in
-    by (sym (and_with_true_is_same (is_pattern edition p))
+    equal_tests_pass_in_same_sets (sym (and_with_true_is_same (is_pattern edition p))
     ∙ ap (λ b. is_pattern edition p && b)
     (readable_rules_ask_no_flush edition (is_multiline p) number (first_position p) p))
     (pattern_is_right_by_each_rule [] edition p)
 
 readable_rules_judge_expression : (e : ExpressionTree Text) → Are readable (λ k. expression_keeps k e) (is_expression e)
 readable_rules_judge_expression (select e vs) =
-    by (sym (and_with_true_is_same (is_expression (select e vs)))) (select_is_right_by_each_rule [] e vs)
-readable_rules_judge_expression (inline e) = one rule.TermAttribute (not (is_term_attribute e))
+    equal_tests_pass_in_same_sets (sym (and_with_true_is_same (is_expression (select e vs))))
+    (select_is_right_by_each_rule [] e vs)
+readable_rules_judge_expression (inline e) = asked_rule_passes_in_set rule.TermAttribute (not (is_term_attribute e))
 
 readable_rules_judge_comment : (content : List Text) → Are readable (λ k. comment_keeps k content) (are_lines content)
 readable_rules_judge_comment content =
-    by (sym (and_with_true_is_same (are_lines content && true) ∙ and_with_true_is_same (are_lines content)))
+    equal_tests_pass_in_same_sets
+    (sym (and_with_true_is_same (are_lines content && true) ∙ and_with_true_is_same (are_lines content)))
     (comment_is_right_by_each_rule [] content)
 
 single_rules_are_parts_of_readable : (edition : Edition)
@@ -239,7 +261,8 @@ canonical_rules_judge_comment : (content : List Text)
     → Are every_rule (λ k. comment_keeps k content) (are_lines content && is_plain_comment content)
 canonical_rules_judge_comment [] = comment_is_right_by_each_rule further []
 canonical_rules_judge_comment (line ∷ lines) =
-    by (ap (λ b. b && list_all is_plain_line (line ∷ lines)) (sym (and_with_true_is_same (are_lines (line ∷ lines)))))
+    equal_tests_pass_in_same_sets
+    (ap (λ b. b && list_all is_plain_line (line ∷ lines)) (sym (and_with_true_is_same (are_lines (line ∷ lines)))))
     (comment_is_right_by_each_rule further (line ∷ lines))
 
 canonical_rules_judge_flush : (edition : Edition) (o : Option ℕ) (s : ElementPosition) (p : PatternTree Text)
@@ -251,7 +274,7 @@ canonical_rules_judge_pattern : (edition : Edition) (p : PatternTree Text)
     → Are every_rule (λ k. pattern_keeps edition k p) (is_pattern edition p && is_flush edition p)
 canonical_rules_judge_pattern edition p =
     let number = least (line_indents edition (first_position p) p) in
-    by (ap (λ b. is_pattern edition p && (not (is_multiline p) || not (hides_mark p) && b))
+    equal_tests_pass_in_same_sets (ap (λ b. is_pattern edition p && (not (is_multiline p) || not (hides_mark p) && b))
     (canonical_rules_judge_flush edition number (first_position p) p)) (pattern_is_right_by_each_rule further edition p)
 
 false_and_anything_is_same : (a b c : Bool) → a ≡ false → (a && b) ≡ (a && c)
@@ -269,10 +292,12 @@ canonical_rules_judge_expression : (e : ExpressionTree Text)
 canonical_rules_judge_expression (select e vs) =
     let allowed = is_none (selector_fault e) in
     let n = defaults vs in
-    by (and_is_associative allowed (nat_le n 1) (n == 1) ∙ ap (λ b. allowed && b) (one_default_is_bounded n)
+    equal_tests_pass_in_same_sets
+    (and_is_associative allowed (nat_le n 1) (n == 1) ∙ ap (λ b. allowed && b) (one_default_is_bounded n)
     ∙ sym (and_is_associative allowed (nat_le n 1) (nat_le 1 n))) (select_is_right_by_each_rule further e vs)
 canonical_rules_judge_expression (inline e) =
-    by (and_with_true_is_same (not (is_term_attribute e))) (one rule.TermAttribute (not (is_term_attribute e)))
+    equal_tests_pass_in_same_sets (and_with_true_is_same (not (is_term_attribute e)))
+    (asked_rule_passes_in_set rule.TermAttribute (not (is_term_attribute e)))
 
 single_rules_are_parts_of_canonical : (edition : Edition)
     → ArePartsOf every_rule (single_rule edition) (canonical_rules edition)

@@ -30,9 +30,10 @@ module _ {X : Type 0} (test : X → Bool) where
   none_is_found_after_passing_first true x o all e = e
   none_is_found_after_passing_first false x o all e = refl
 
-  none_refused : (xs : List X) → is_none (refused xs) ≡ list_all test xs
-  none_refused [] = refl
-  none_refused (x ∷ xs) = none_is_found_after_passing_first (test x) x (refused xs) (list_all test xs) (none_refused xs)
+  none_is_refused_where_all_pass : (xs : List X) → is_none (refused xs) ≡ list_all test xs
+  none_is_refused_where_all_pass [] = refl
+  none_is_refused_where_all_pass (x ∷ xs) =
+      none_is_found_after_passing_first (test x) x (refused xs) (list_all test xs) (none_is_refused_where_all_pass xs)
 
   -- the item is refused, and all before it pass
   record IsRefused (xs : List X) (found : X) : Type 0 where
@@ -90,12 +91,14 @@ set_finds_first edition e broken are rules =
 pub no_rule_is_broken_where_all_are_obeyed : (edition : Edition) (e : EntryTree Text)
     → is_none (broken_rule edition e) ≡ entry_obeys (canonical_rules edition) e
 no_rule_is_broken_where_all_are_obeyed edition e =
-    none_refused (λ rule. entry_keeps edition rule e) every_rule ∙ sym (canonical_entry_keeps_each edition e)
+    none_is_refused_where_all_pass (λ rule. entry_keeps edition rule e) every_rule ∙
+    sym (canonical_entry_keeps_each edition e)
 
 pub no_readable_rule_broken : (edition : Edition) (e : EntryTree Text)
     → is_none (first_of edition e readable) ≡ entry_obeys (readable_rules edition) e
 no_readable_rule_broken edition e =
-    none_refused (λ rule. entry_keeps edition rule e) readable ∙ sym (readable_entry_keeps_each edition e)
+    none_is_refused_where_all_pass (λ rule. entry_keeps edition rule e) readable ∙
+    sym (readable_entry_keeps_each edition e)
 
 -- ---- The entry that breaks one
 

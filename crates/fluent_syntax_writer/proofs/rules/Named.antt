@@ -16,7 +16,7 @@ use Rattle.fluent_syntax_grammar.specs.Arguments.{is_used}
 use Rattle.fluent_syntax_grammar.specs.Readable.{is_argument_value, are_named_well}
 use Rattle.fluent_syntax_grammar.specs.NameKeys.{NotesAll}
 use Rattle.fluent_syntax_grammar.specs.Written.{Text}
-use Rattle.fluent_syntax_grammar.proofs.NameKeys.{any_key}
+use Rattle.fluent_syntax_grammar.proofs.NameKeys.{some_key_equals_name_if_is_key}
 use Rattle.fluent_syntax_writer.specs.SingleRule.{have_values, have_new_names}
 use Rattle.fluent_syntax_writer.specs.Names.{name_of}
 
@@ -93,4 +93,5 @@ module _ {S : Type 0} (text : S → Text) where
       (name : Text) → name ≡ name_of text n → NotesAll k keys (map (name_of text) earlier)
       → list_any (is_at (λ x. slice_cmp nat_cmp name (k x))) keys ≡ is_used (name_of text n) (used earlier)
   table-used k keys earlier n name is noted =
-      any_key k name keys ∙ noted name ∙ ap (λ v. is_used v (map (name_of text) earlier)) is ∙ new_name-used earlier n
+      some_key_equals_name_if_is_key k name keys ∙ noted name ∙ ap (λ v. is_used v (map (name_of text) earlier)) is ∙
+      new_name-used earlier n

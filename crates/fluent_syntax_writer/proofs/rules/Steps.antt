@@ -10,17 +10,19 @@ drop_is_cons F xs i x within is = at_drop_more F xs i x within ∙ ap (λ y. F (
 -- A test of a list, in a state, that is a test of its first item and one of the others in the next state.
 module _ {S X : Type 0} (all : S → List X → Bool) (one : S → X → List X → Bool) (next : S → X → S)
     (step : (s : S) (x : X) (xs : List X) → all s (x ∷ xs) ≡ (one s x xs && all (next s x) xs)) where
-  pub item_passes : (s : S) (xs : List X) (i : ℕ) (x : X) (whole : Bool) → i < length xs → x ≡ get_or xs i x
+  pub rest_decides_after_item_that_passes : (s : S) (xs : List X) (i : ℕ) (x : X) (whole : Bool) → i < length xs →
+      x ≡ get_or xs i x
       → one s x (drop (i + 1) xs) ≡ true → all s (drop i xs) ≡ whole → all (next s x) (drop (i + 1) xs) ≡ whole
-  item_passes s xs i x whole within is passes rest =
+  rest_decides_after_item_that_passes s xs i x whole within is passes rest =
       let others = drop (i + 1) xs in
       let same : all s (drop i xs) ≡ all (next s x) others =
       drop_is_cons (all s) xs i x within is ∙ step s x others ∙ ap (λ b. b && all (next s x) others) passes in
       sym same ∙ rest
 
-  pub item_breaks : (s : S) (xs : List X) (i : ℕ) (x : X) (whole : Bool) → i < length xs → x ≡ get_or xs i x
+  pub item_that_breaks_decides_rest : (s : S) (xs : List X) (i : ℕ) (x : X) (whole : Bool) → i < length xs →
+      x ≡ get_or xs i x
       → one s x (drop (i + 1) xs) ≡ false → all s (drop i xs) ≡ whole → false ≡ whole
-  item_breaks s xs i x whole within is fails rest =
+  item_that_breaks_decides_rest s xs i x whole within is fails rest =
       let others = drop (i + 1) xs in
       let same : all s (drop i xs) ≡ false =
       drop_is_cons (all s) xs i x within is ∙ step s x others ∙ ap (λ b. b && all (next s x) others) fails in

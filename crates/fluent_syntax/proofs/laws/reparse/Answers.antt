@@ -8,7 +8,7 @@ use Rattle.fluent_syntax_grammar.specs.Written.{written}
 use Rattle.fluent_syntax_grammar.proofs.marks.Entries.{written_is_read_back}
 use Rattle.fluent_syntax_grammar.proofs.marks.JoinedTrees.{joined_reads_back}
 use Rattle.fluent_syntax_parser.specs.Answers.{AnswersTiling}
-use Rattle.fluent_syntax.proofs.RoundTripLemmas.{memory_error_writes_nothing, tree_answered}
+use Rattle.fluent_syntax.proofs.RoundTripLemmas.{memory_error_writes_nothing, reading_that_gives_tree_answers_tiling}
 use Rattle.fluent_syntax.proofs.laws.reparse.Goals as goal
 
 pub returns-in-Err-clause-answers : goal.returns-in-Err-clause-answers
@@ -23,11 +23,13 @@ returns-clause-answers g c =
 pub returns-clause-back : goal.returns-clause-back
 returns-clause-back g c = λ canonical.
     let tree = resource_view g.S.Slice.text c.args.r.now in
-    tree_answered string_bytes (written false tree) tree c.parse.result (written_is_read_back One tree false canonical)
+    reading_that_gives_tree_answers_tiling string_bytes (written false tree) tree c.parse.result
+    (written_is_read_back One tree false canonical)
     (returns-clause-answers g c)
 
 pub returns-clause-joined : goal.returns-clause-joined
 returns-clause-joined g c = λ canonical.
     let tree = resource_view g.S.Slice.text c.args.r.now in
-    tree_answered string_bytes (written false tree) (joined_body tree) c.parse.result (joined_reads_back tree canonical)
+    reading_that_gives_tree_answers_tiling string_bytes (written false tree) (joined_body tree) c.parse.result
+    (joined_reads_back tree canonical)
     (returns-clause-answers g c)

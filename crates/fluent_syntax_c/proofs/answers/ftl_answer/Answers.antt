@@ -3,7 +3,7 @@ use Rattle.fluent_syntax_c.specs.Answer.{IsCommandAnswer}
 use Rattle.fluent_syntax_c.specs.declared.arguments.CommandKind.TheVariants.{Answer}
 use Rattle.fluent_syntax_c.specs.declared.status.Refusal.TheVariants.{Argument, Input, Depth, Tree}
 use Rattle.fluent_syntax_c.proofs.Commands.{text_command_is_not_json}
-use Rattle.fluent_syntax_c.proofs.Statuses.{answered_is_left, refused_deeper, iff_is_transitive}
+use Rattle.fluent_syntax_c.proofs.Statuses.{answered_is_left, deeper_is_refused_by_three_statuses, iff_is_transitive}
 use Rattle.fluent_syntax_c.proofs.answers.ftl_answer.Goals as goal
 
 pub returns-clause-leaves : goal.returns-clause-leaves
@@ -26,7 +26,8 @@ returns-clause-deeper c = λ stated. c.command_bytes.ensures.deeper ((c.give.ens
 
 pub returns-clause-shallow : goal.returns-clause-shallow
 returns-clause-shallow c = λ deeper.
-    refused_deeper c.command_bytes.result c.give.result _ c.give.ensures.refused c.command_bytes.ensures.shallow
+    deeper_is_refused_by_three_statuses c.command_bytes.result c.give.result _ c.give.ensures.refused
+    c.command_bytes.ensures.shallow
     (λ e d. c.command_bytes.ensures.argument.0 e (Answer d.0) d.1)
     (λ e d. text_command_is_not_json d.0 (d.1 ∙ (c.command_bytes.ensures.tree e).0)) deeper
 

@@ -1,12 +1,15 @@
 use Rattle.std.proofs.Common.{sym, ◌∙◌}
 use Rattle.fluent_syntax_c.specs.declared.status.Refusal.TheVariants.{Depth, Tree}
-use Rattle.fluent_syntax_c.proofs.Statuses.{same_refusal}
+use Rattle.fluent_syntax_c.proofs.Statuses.{equal_refusal_numbers_are_of_same_refusal}
 use Rattle.fluent_syntax_c.proofs.canonical.ftl_is_canonical.Goals as goal
 
 pub returns-in-Err-clause-tree : goal.returns-in-Err-clause-tree
 returns-in-Err-clause-tree c = λ stated.
-    let same = same_refusal c.in-Err.refusal Tree (sym c.number-in-Err.ensures ∙ stated) in c.in-Err.ensures.tree cc
+    let same = equal_refusal_numbers_are_of_same_refusal c.in-Err.refusal Tree (sym c.number-in-Err.ensures ∙ stated) in
+    c.in-Err.ensures.tree cc
 
 pub returns-in-Err-clause-json : goal.returns-in-Err-clause-json
 returns-in-Err-clause-json c = λ stated.
-    let same = same_refusal c.in-Err.refusal Depth (sym c.number-in-Err.ensures ∙ stated) in c.in-Err.ensures.json cc
+    let same =
+    equal_refusal_numbers_are_of_same_refusal c.in-Err.refusal Depth (sym c.number-in-Err.ensures ∙ stated) in
+    c.in-Err.ensures.json cc

@@ -2,7 +2,8 @@ use Rattle.std.proofs.Common.{◌≡◌, ◌∙◌, ap, arith, length, refl, str
 use Rattle.std.specs.Vec.{vec_len}
 use Rattle.fluent_syntax_tree.specs.View.{entry_view, pattern_view}
 use Rattle.fluent_syntax_edits.specs.Changes.{with_target}
-use Rattle.fluent_syntax_edits.proofs.Numbered.{insert_maps_to_insert, none_there, remove_maps_to_remove, set_there}
+use Rattle.fluent_syntax_edits.proofs.Numbered.{insert_maps_to_insert, past_end_at_number_changes_nothing}
+use Rattle.fluent_syntax_edits.proofs.Numbered.{remove_maps_to_remove, setting_item_changes_it_at_number}
 use Rattle.fluent_syntax_edits.proofs.apply_edit.apply.Goals as goal
 
 pub returns-in_ok-insert-in-Insert : goal.returns-in_ok-insert-in-Insert
@@ -18,7 +19,8 @@ returns-in-Replace c =
     let body = c.args.body.now in
     let size : length body.items ≡ vec_len body = omega (arith, body.ok.0) in
     rw c.in-Replace.is
-    (set_there (entry_view (λ s. string_bytes s)) _ c.args.index body.items c.in-Replace.entry c.in-Replace.entry
+    (setting_item_changes_it_at_number (entry_view (λ s. string_bytes s)) _ c.args.index body.items c.in-Replace.entry
+    c.in-Replace.entry
     (omega (arith, size)) refl)
 
 pub returns-in-Set : goal.returns-in-Set
@@ -28,7 +30,8 @@ returns-in-Set c =
     let target = c.in-Set.target in
     let v = pattern_view (λ s. string_bytes s) c.in-Set.value in
     rw c.in-Set.is
-    (set_there (entry_view (λ s. string_bytes s)) (with_target target v) c.args.index body.items _ _
+    (setting_item_changes_it_at_number (entry_view (λ s. string_bytes s)) (with_target target v) c.args.index body.items
+    _ _
     (omega (arith, size))
     (c.set_in.ensures
     ∙ ap (λ e. with_target target v (entry_view (λ s. string_bytes s) e)) c.index_mut-in-Set.ensures.value))
@@ -42,10 +45,14 @@ pub returns-in-Replace-2 : goal.returns-in-Replace-2
 returns-in-Replace-2 c =
     let body = c.args.body.now in
     let size : length body.items ≡ vec_len body = omega (arith, body.ok.0) in
-    rw c.in-Replace.is (none_there (entry_view (λ s. string_bytes s)) _ c.args.index body.items (omega (arith, size)))
+    rw c.in-Replace.is
+    (past_end_at_number_changes_nothing (entry_view (λ s. string_bytes s)) _ c.args.index body.items
+    (omega (arith, size)))
 
 pub returns-in-Set-2 : goal.returns-in-Set-2
 returns-in-Set-2 c =
     let body = c.args.body.now in
     let size : length body.items ≡ vec_len body = omega (arith, body.ok.0) in
-    rw c.in-Set.is (none_there (entry_view (λ s. string_bytes s)) _ c.args.index body.items (omega (arith, size)))
+    rw c.in-Set.is
+    (past_end_at_number_changes_nothing (entry_view (λ s. string_bytes s)) _ c.args.index body.items
+    (omega (arith, size)))

@@ -5,14 +5,14 @@ use Rattle.fluent_syntax_names.specs.Graph.{IsGraph, targets_of}
 use Rattle.fluent_syntax_names.specs.Cycles.{links}
 use Rattle.fluent_syntax_names.specs.ReferenceGraphs.{HasEdges}
 use Rattle.fluent_syntax_names.specs.NamedLists.{numbers_of}
-use Rattle.fluent_syntax_names.proofs.Nodes.{graph_of_names_is_graph, same_component_means_cyclic}
+use Rattle.fluent_syntax_names.proofs.Nodes.{edges_of_name_graph_lead_to_nodes, same_component_means_cyclic}
 use Rattle.fluent_syntax_names.proofs.cycles.cycles_of.Goals as goal
 
 pub components-requires : goal.components-requires
 components-requires c =
     let reference_graph = c.in_ok-reference_graph.reference_graph in
     subst (λ (l : List (Vec ℕ Global)). IsGraph (targets_of l)) (sym c.deref.ensures.value)
-    (graph_of_names_is_graph (links c.args.files.now) (numbers_of reference_graph.nodes)
+    (edges_of_name_graph_lead_to_nodes (links c.args.files.now) (numbers_of reference_graph.nodes)
     (targets_of reference_graph.nodes.lists.items)
     c.in_ok-reference_graph.ensures)
 

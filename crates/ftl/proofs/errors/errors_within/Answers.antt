@@ -5,7 +5,7 @@ use Rattle.std.specs.Prelude.{All}
 use Rattle.fluent_syntax_tree.specs.declared.errors.ParserError.{ParserError}
 use Rattle.fluent_syntax_parser.specs.Rest.{faults_of}
 use Rattle.fluent_syntax_parser.specs.declared.options.Comments.TheVariants.{Kept}
-use Rattle.fluent_syntax_parser.proofs.tilings.Rests.{entry_to}
+use Rattle.fluent_syntax_parser.proofs.tilings.Rests.{entry_at_leads_to_its_end}
 use Rattle.ftl.proofs.ErrorsTo.{ErrorsTo, errors_before_end_are_all, all_hold_with_one_more_error}
 use Rattle.ftl.proofs.ErrorsTo.{errors_grow_by_those_of_entry, no_errors_are_before_start}
 use Rattle.ftl.proofs.errors.errors_within.Goals as goal
@@ -27,7 +27,7 @@ loop-errors-preserved c =
     let here = c.in_ok-error.ensures in
     let next = rw (inv.text, inv.options, c.in-Some.is) at here.next in
     let error = c.in-Some.error in
-    let there = entry_to Kept c.args.edition t _ _ _ next.0 (faults_of error) next.1 in
+    let there = entry_at_leads_to_its_end Kept c.args.edition t _ _ _ next.0 (faults_of error) next.1 in
     record {
       text = ap (λ source. source.bytes.now) here.reads.text ∙ inv.text;
       options = here.reads.options ∙ inv.options;

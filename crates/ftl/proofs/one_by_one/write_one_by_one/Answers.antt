@@ -2,7 +2,7 @@ use Rattle.std.proofs.Common.{◌∙◌, ◌∷◌, ◌++◌, [], ap, map}
 use Rattle.std.specs.Prelude.{option_to_list}
 use Rattle.fluent_syntax_tree.specs.View.{entry_view}
 use Rattle.fluent_syntax_parser.specs.Rest.{faults_of}
-use Rattle.fluent_syntax_parser.proofs.tilings.Rests.{entry_to}
+use Rattle.fluent_syntax_parser.proofs.tilings.Rests.{entry_at_leads_to_its_end}
 use Rattle.ftl.specs.OneByOne.{wrote_none, one_more}
 use Rattle.ftl.proofs.ReadTo.{all_is_read_before_end, nothing_is_read_before_start, reading_goes_on_by_entry}
 use Rattle.ftl.proofs.one_by_one.write_one_by_one.Goals as goal
@@ -32,7 +32,8 @@ loop-errors-preserved g c =
     let put = rw (inv.text, inv.options, c.in-Some.is, c.new-slices.ensures) at here.next in
     let span = rw c.in-Some.is at here.in_place in
     let in_place = rw span at put.in_place in
-    let there = entry_to options.comments options.edition t _ _ _ put.tree (faults_of put.error) in_place in
+    let there =
+    entry_at_leads_to_its_end options.comments options.edition t _ _ _ put.tree (faults_of put.error) in_place in
     let longer =
     reading_goes_on_by_entry options.comments options.edition t _ _ _ inv.so_far.2 _ put.tree put.error there in
     let entry = put.added ∙ ap (λ xs. xs ++ put.entry ∷ []) inv.no_entry in

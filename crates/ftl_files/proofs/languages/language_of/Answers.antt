@@ -1,7 +1,8 @@
 use Rattle.std.proofs.Common.{None, arith}
 use Rattle.std.proofs.lemmas.Str.Pattern.{split_after, strip_suffix_char}
 use Rattle.ftl_files.proofs.LanguageLemmas.{split_at_slash_gives_folder_name, found_language_is_language}
-use Rattle.ftl_files.proofs.LanguageLemmas.{found_language_is_not_none, is_language, relative_path_begins_with_language}
+use Rattle.ftl_files.proofs.LanguageLemmas.{found_language_is_not_none, language_at_front_is_found}
+use Rattle.ftl_files.proofs.LanguageLemmas.{relative_path_begins_with_language}
 use Rattle.ftl_files.proofs.LanguageLemmas.{path_is_joined}
 use Rattle.ftl_files.proofs.languages.language_of.Goals as goal
 
@@ -13,7 +14,7 @@ returns-clause-some c =
     let (k, found, front, size) = c.in_ok-strip_suffix.ensures.cases in
     let slash = strip_suffix_char 47 _ c.strip_suffix-2.result c.strip_suffix-2.ensures.cases (omega arith) in
     found_language_is_language _ _ _
-    (is_language c.args.languages.now name.now rest.now _ c.args.path.now _ k c.strip_suffix-2.result
+    (language_at_front_is_found c.args.languages.now name.now rest.now _ c.args.path.now _ k c.strip_suffix-2.result
     c.in_ok-relative_path.ensures parts.0 parts.1 found.1 front slash)
 
 pub returns-in_err-rest-clause-none : goal.returns-in_err-rest-clause-none
@@ -36,5 +37,5 @@ returns-clause-none c none language l =
     let (k, found, front, size) = c.in_ok-strip_suffix.ensures.cases in
     let slash = strip_suffix_char 47 _ c.strip_suffix-2.result c.strip_suffix-2.ensures.cases (omega arith) in
     found_language_is_not_none _ _ _
-    (is_language c.args.languages.now name.now rest.now _ c.args.path.now _ k c.strip_suffix-2.result
+    (language_at_front_is_found c.args.languages.now name.now rest.now _ c.args.path.now _ k c.strip_suffix-2.result
     c.in_ok-relative_path.ensures parts.0 parts.1 found.1 front slash) none

@@ -1,7 +1,7 @@
 use Rattle.std.proofs.Common.{◌≡◌, ◌++◌, ◌∙◌, List, ℕ, Some, subst}
 use Rattle.std.proofs.lemmas.Option.{MatchOption-at_some}
 use Rattle.ftl_files.specs.Files.{GoesOn, IsSynced, at_path}
-use Rattle.ftl_files.proofs.Replaced.{filling}
+use Rattle.ftl_files.proofs.Replaced.{written_and_synced_file_replaces}
 use Rattle.ftl_files.proofs.replacing.fill_and_rename.Goals as goal
 
 pub returns-clause-any_moment : goal.returns-clause-any_moment
@@ -15,6 +15,7 @@ returns-clause-any_moment g c =
     c.requires (λ bytes is. MatchOption-at_some _ _ bytes is c.in_ok-write.ensures.written) in
     let synced = subst (λ p. IsSynced (files c.sync.new.self) p) (c.write.ensures.path ∙ c.requires)
     c.in_ok-sync.ensures.synced in
-    filling _ _ _ _ c.args.temporary.now c.args.path.now c.args.text.now write c.sync.ensures.same
+    written_and_synced_file_replaces _ _ _ _ c.args.temporary.now c.args.path.now c.args.text.now write
+    c.sync.ensures.same
     c.rename.ensures.changes
     had synced

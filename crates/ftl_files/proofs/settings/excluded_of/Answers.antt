@@ -6,7 +6,7 @@ use Rattle.toml.proofs.Views.{view-Array}
 use Rattle.std.specs.Prelude.{String, string_bytes}
 use Rattle.std.specs.declared.alloc.Global.{Global}
 use Rattle.toml.specs.Data.{Data, array, string}
-use Rattle.ftl_files.proofs.ListedNames.{list_of_names_is_listed, not_listed}
+use Rattle.ftl_files.proofs.ListedNames.{list_of_names_is_listed, name_in_none_is_not_listed}
 use Rattle.ftl_files.proofs.settings.excluded_of.Goals as goal
 
 abbrev named : String Global → Data
@@ -29,7 +29,8 @@ returns-in_err-text_of-clause-refused c =
     ap view c.in-Array.is ∙ view-Array c.in-Array.values
     ∙ ap (λ vs. array (items_of (map view vs))) (sym c.deref-text-items.ensures.value) in
     rw (p.1, p.2, c.in-Some.is, array)
-    (λ other texts is. not_listed named values before value after texts at (c.in_err-text_of.ensures.refused other) is)
+    (λ other texts is. name_in_none_is_not_listed named values before value after texts at
+    (c.in_err-text_of.ensures.refused other) is)
 
 pub returns-in_err-add_text-clause-refused : goal.returns-in_err-add_text-clause-refused
 returns-in_err-add_text-clause-refused c =

@@ -6,7 +6,7 @@ use Rattle.toml.proofs.Views.{view-Array}
 use Rattle.ftl_files.specs.IgnoreRules.{rule_text}
 use Rattle.ftl_files.specs.declared.ignore_rules.IgnoreRule.{IgnoreRule}
 use Rattle.toml.specs.Data.{Data, array, string}
-use Rattle.ftl_files.proofs.ListedNames.{list_of_names_is_listed, not_listed}
+use Rattle.ftl_files.proofs.ListedNames.{list_of_names_is_listed, name_in_none_is_not_listed}
 use Rattle.ftl_files.proofs.settings.ignored_of.Goals as goal
 
 abbrev named : IgnoreRule → Data
@@ -29,7 +29,8 @@ returns-in_err-rule_of-clause-refused c =
     ap view c.in-Array.is ∙ view-Array c.in-Array.texts
     ∙ ap (λ vs. array (items_of (map view vs))) (sym c.deref-text-items.ensures.value) in
     rw (p.1, p.2, c.in-Some.is, array)
-    (λ other rules is. not_listed named values before value after rules at (c.in_err-rule_of.ensures.refused other) is)
+    (λ other rules is. name_in_none_is_not_listed named values before value after rules at
+    (c.in_err-rule_of.ensures.refused other) is)
 
 pub returns-in_err-add_rule-clause-refused : goal.returns-in_err-add_rule-clause-refused
 returns-in_err-add_rule-clause-refused c =

@@ -6,7 +6,7 @@ use Rattle.toml.proofs.Views.{view-Array}
 use Rattle.ftl_files.specs.Kinds.{reported_name}
 use Rattle.ftl_files.specs.declared.kinds.ReportedKind.{ReportedKind}
 use Rattle.toml.specs.Data.{Data, array, string}
-use Rattle.ftl_files.proofs.ListedNames.{list_of_names_is_listed, not_listed}
+use Rattle.ftl_files.proofs.ListedNames.{list_of_names_is_listed, name_in_none_is_not_listed}
 use Rattle.ftl_files.proofs.settings_kinds.kinds_of.Goals as goal
 
 abbrev named : ReportedKind → Data
@@ -29,7 +29,8 @@ returns-in_err-kind_of-clause-refused c =
     ap view c.in-Array.is ∙ view-Array c.in-Array.names
     ∙ ap (λ vs. array (items_of (map view vs))) (sym c.deref-name-items.ensures.value) in
     rw (p.1, p.2, c.in-Some.is, array)
-    (λ other kinds is. not_listed named values before value after kinds at (c.in_err-kind_of.ensures.refused other) is)
+    (λ other kinds is. name_in_none_is_not_listed named values before value after kinds at
+    (c.in_err-kind_of.ensures.refused other) is)
 
 pub returns-in_err-add_kind-clause-refused : goal.returns-in_err-add_kind-clause-refused
 returns-in_err-add_kind-clause-refused c =

@@ -2,7 +2,7 @@ use Rattle.std.proofs.Common.{string_bytes}
 use Rattle.std.proofs.lemmas.Result.{err_from_is_err_and}
 use Rattle.fluent_syntax_tree.specs.View.{entry_view}
 use Rattle.fluent_syntax_json.specs.Reading.{entry_in}
-use Rattle.fluent_syntax_json.proofs.Items.{handed, pushed, stopped}
+use Rattle.fluent_syntax_json.proofs.Items.{handed, pushed, item_that_fails_fails_items}
 use Rattle.fluent_syntax_json.proofs.reading.entries.resource.Goals as goal
 
 pub returns-in_err-entry : goal.returns-in_err-entry
@@ -12,7 +12,8 @@ returns-in_err-entry c =
     (λ q. rw (
       c.in_ok-field.ensures,
       c.in_ok-list.ensures,
-      stopped entry_in c.in_ok-list.field-0.now.items c.deref-item-items.result.now c.loop-item.item-index
+      item_that_fails_fails_items entry_in c.in_ok-list.field-0.now.items c.deref-item-items.result.now
+          c.loop-item.item-index
           c.item-item.result c.loop-item-test.true c.item-item.is c.deref-item-items.ensures.value q,
     ))
     c.in_err-entry.ensures

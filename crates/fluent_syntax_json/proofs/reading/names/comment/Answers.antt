@@ -2,7 +2,7 @@ use Rattle.std.proofs.Common.{string_bytes, sym, ◌∙◌}
 use Rattle.std.proofs.lemmas.Result.{err_from_is_err_and}
 use Rattle.serde_json.specs.Find.{as_str}
 use Rattle.serde_json.specs.View.{view}
-use Rattle.fluent_syntax_json.proofs.Items.{handed, pushed, stopped}
+use Rattle.fluent_syntax_json.proofs.Items.{handed, pushed, item_that_fails_fails_items}
 use Rattle.fluent_syntax_json.proofs.Lines.{non_text_is_list_of_lines}
 use Rattle.fluent_syntax_json.proofs.reading.names.comment.Goals as goal
 
@@ -14,7 +14,8 @@ returns-in_err-text-2 c =
       c.in_ok-content.ensures,
       non_text_is_list_of_lines (view c.in_ok-content.content.now) (sym c.is_string.ensures ∙ c.if-is_string.false),
       c.in_ok-list.ensures,
-      stopped as_str c.in_ok-list.field-0.now.items c.deref-line-items.result.now c.loop-line.line-index
+      item_that_fails_fails_items as_str c.in_ok-list.field-0.now.items c.deref-line-items.result.now
+          c.loop-line.line-index
           c.line-item.result c.loop-line-test.true c.line-item.is c.deref-line-items.ensures.value q,
     ))
     c.in_err-text-2.ensures

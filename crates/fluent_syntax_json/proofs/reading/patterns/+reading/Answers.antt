@@ -8,8 +8,8 @@ use Rattle.fluent_syntax_tree.proofs.Views.{view-VariableReference, view-InlineP
 use Rattle.fluent_syntax_tree.proofs.Views.{view-Placeable, view-Pattern, view-Variant, view-NamedArgument}
 use Rattle.fluent_syntax_tree.proofs.Views.{view-roll-CallArguments}
 use Rattle.fluent_syntax_json.specs.Reading.{inline_in, element_in, named_in, variant_in}
-use Rattle.fluent_syntax_json.proofs.Depth.{get_depth, present_value_is_got, item_at_key_is_less_deep}
-use Rattle.fluent_syntax_json.proofs.Items.{handed, pushed, finished, stopped}
+use Rattle.fluent_syntax_json.proofs.Depth.{member_is_less_deep, present_value_is_got, item_at_key_is_less_deep}
+use Rattle.fluent_syntax_json.proofs.Items.{handed, pushed, items_read_when_all_are_so_far, item_that_fails_fails_items}
 use Rattle.fluent_syntax_json.proofs.Spelled.{pattern-is, element-is, expression-is, inline-is, arguments-is, named-is}
 use Rattle.fluent_syntax_json.proofs.Spelled.{variant-is}
 use Rattle.fluent_syntax_json.proofs.reading.patterns.+reading.Goals as goal
@@ -85,7 +85,8 @@ variant-returns t c =
 pub variant-pattern-requires : goal.variant-pattern-requires
 variant-pattern-requires t c =
     let below =
-    get_depth (codes "value") (view c.args.v.now) (view c.in_ok-field-2.field-0.now) c.in_ok-field-2.ensures in
+    member_is_less_deep (codes "value") (view c.args.v.now) (view c.in_ok-field-2.field-0.now)
+    c.in_ok-field-2.ensures in
     (omega (arith, below), tt)
 
 pub named_argument-returns-in_err-field : goal.named_argument-returns-in_err-field
@@ -132,7 +133,8 @@ named_argument-returns t c =
 pub named_argument-inline-requires : goal.named_argument-inline-requires
 named_argument-inline-requires t c =
     let below =
-    get_depth (codes "value") (view c.args.v.now) (view c.in_ok-field-2.field-0.now) c.in_ok-field-2.ensures in
+    member_is_less_deep (codes "value") (view c.args.v.now) (view c.in_ok-field-2.field-0.now)
+    c.in_ok-field-2.ensures in
     (omega (arith, below), tt)
 
 pub element-returns-in_err-type_name : goal.element-returns-in_err-type_name
@@ -211,7 +213,7 @@ element-returns-in_ok-expression-in-Placeable t c =
 pub element-expression-requires : goal.element-expression-requires
 element-expression-requires t c =
     let below =
-    get_depth (codes "expression") (view c.args.v.now) (view c.in_ok-field-in-Placeable.field-0.now)
+    member_is_less_deep (codes "expression") (view c.args.v.now) (view c.in_ok-field-in-Placeable.field-0.now)
     c.in_ok-field-in-Placeable.ensures in
     (omega (arith, below), tt)
 
@@ -538,7 +540,7 @@ pub inline-arguments-requires-in-Some : goal.inline-arguments-requires-in-Some
 inline-arguments-requires-in-Some t c =
     let there =
     present_value_is_got (codes "arguments") (view c.args.v.now) (view c.in-Some.given.now) (sym c.in-Some.ensures) in
-    let below = get_depth (codes "arguments") (view c.args.v.now) (view c.in-Some.given.now) there in
+    let below = member_is_less_deep (codes "arguments") (view c.args.v.now) (view c.in-Some.given.now) there in
     (omega (arith, below), tt)
 
 pub inline-returns-in_err-arguments-in-Some : goal.inline-returns-in_err-arguments-in-Some
@@ -582,14 +584,14 @@ inline-returns-in_ok-arguments-in-Some t c =
 pub inline-arguments-requires : goal.inline-arguments-requires
 inline-arguments-requires t c =
     let below =
-    get_depth (codes "arguments") (view c.args.v.now) (view c.in_ok-field-in-FunctionReference-2.field-0.now)
+    member_is_less_deep (codes "arguments") (view c.args.v.now) (view c.in_ok-field-in-FunctionReference-2.field-0.now)
     c.in_ok-field-in-FunctionReference-2.ensures in
     (omega (arith, below), tt)
 
 pub inline-expression-requires : goal.inline-expression-requires
 inline-expression-requires t c =
     let below =
-    get_depth (codes "expression") (view c.args.v.now) (view c.in_ok-field-in-Placeable.field-0.now)
+    member_is_less_deep (codes "expression") (view c.args.v.now) (view c.in_ok-field-in-Placeable.field-0.now)
     c.in_ok-field-in-Placeable.ensures in
     (omega (arith, below), tt)
 
@@ -625,7 +627,8 @@ pattern-returns-in_err-element t c =
       pattern-is (view c.args.v.now),
       c.in_ok-field.ensures,
       c.in_ok-list.ensures,
-      stopped element_in c.in_ok-list.field-0.now.items c.deref-item-items.result.now c.loop-item.item-index
+      item_that_fails_fails_items element_in c.in_ok-list.field-0.now.items c.deref-item-items.result.now
+          c.loop-item.item-index
           c.item-item.result c.loop-item-test.true c.item-item.is c.deref-item-items.ensures.value q,
     ))
     c.in_err-element.ensures
@@ -639,7 +642,8 @@ pattern-loop-item-preserved t c =
 pub pattern-returns : goal.pattern-returns
 pattern-returns t c =
     let all =
-    finished element_in (element_view string_bytes) c.loop-item.elements.items c.in_ok-list.field-0.now.items
+    items_read_when_all_are_so_far element_in (element_view string_bytes) c.loop-item.elements.items
+    c.in_ok-list.field-0.now.items
     c.deref-item-items.result.now c.loop-item.item-index c.loop-item.invariant c.loop-item-test.false
     c.deref-item-items.ensures.value in
     rw (pattern-is (view c.args.v.now), c.in_ok-field.ensures, c.in_ok-list.ensures, all, view-Pattern)
@@ -656,7 +660,8 @@ expression-returns-in_ok-inline-in-None t c =
 
 pub expression-inline-requires-in-Some : goal.expression-inline-requires-in-Some
 expression-inline-requires-in-Some t c =
-    let below = get_depth (codes "selector") (view c.args.v.now) (view c.in-Some.found.now) (sym c.in-Some.ensures) in
+    let below =
+    member_is_less_deep (codes "selector") (view c.args.v.now) (view c.in-Some.found.now) (sym c.in-Some.ensures) in
     (omega (arith, below), tt)
 
 pub expression-returns-in_err-selector-in-Some : goal.expression-returns-in_err-selector-in-Some
@@ -710,7 +715,8 @@ expression-returns-in_err-variant-in-Some t c =
       c.in_ok-selector-in-Some.ensures,
       c.in_ok-field-in-Some.ensures,
       c.in_ok-list-in-Some.ensures,
-      stopped variant_in c.in_ok-list-in-Some.field-0.now.items c.deref-item-items.result.now c.loop-item.item-index
+      item_that_fails_fails_items variant_in c.in_ok-list-in-Some.field-0.now.items c.deref-item-items.result.now
+          c.loop-item.item-index
           c.item-item.result c.loop-item-test.true c.item-item.is c.deref-item-items.ensures.value q,
     ))
     c.in_err-variant-in-Some.ensures
@@ -727,7 +733,7 @@ expression-loop-item-preserved t c = record {
 pub expression-returns-after-loop-item : goal.expression-returns-after-loop-item
 expression-returns-after-loop-item t c =
     let all =
-    finished variant_in (variant_view string_bytes) c.loop-item.variants.items
+    items_read_when_all_are_so_far variant_in (variant_view string_bytes) c.loop-item.variants.items
     c.in_ok-list-in-Some.field-0.now.items c.deref-item-items.result.now c.loop-item.item-index
     c.loop-item.invariant.read c.loop-item-test.false c.deref-item-items.ensures.value in
     rw (
@@ -769,7 +775,8 @@ arguments-returns-in_err-inline t c =
       arguments-is (view c.args.v.now),
       c.in_ok-field.ensures,
       c.in_ok-list.ensures,
-      stopped inline_in c.in_ok-list.field-0.now.items c.deref-item-items.result.now c.loop-item.item-index
+      item_that_fails_fails_items inline_in c.in_ok-list.field-0.now.items c.deref-item-items.result.now
+          c.loop-item.item-index
           c.item-item.result c.loop-item-test.true c.item-item.is c.deref-item-items.ensures.value q,
     ))
     c.in_err-inline.ensures
@@ -782,7 +789,8 @@ arguments-loop-item-preserved t c =
 pub arguments-returns-in_err-field-2 : goal.arguments-returns-in_err-field-2
 arguments-returns-in_err-field-2 t c =
     let ps =
-    finished inline_in (inline_view string_bytes) c.loop-item.positional.items c.in_ok-list.field-0.now.items
+    items_read_when_all_are_so_far inline_in (inline_view string_bytes) c.loop-item.positional.items
+    c.in_ok-list.field-0.now.items
     c.deref-item-items.result.now c.loop-item.item-index c.loop-item.invariant c.loop-item-test.false
     c.deref-item-items.ensures.value in
     let p = err_from_is_err_and c.from_residual-in_err-field-2.result c.from_residual-in_err-field-2.ensures.1 in
@@ -793,7 +801,8 @@ arguments-returns-in_err-field-2 t c =
 pub arguments-returns-in_err-list-2 : goal.arguments-returns-in_err-list-2
 arguments-returns-in_err-list-2 t c =
     let ps =
-    finished inline_in (inline_view string_bytes) c.loop-item.positional.items c.in_ok-list.field-0.now.items
+    items_read_when_all_are_so_far inline_in (inline_view string_bytes) c.loop-item.positional.items
+    c.in_ok-list.field-0.now.items
     c.deref-item-items.result.now c.loop-item.item-index c.loop-item.invariant c.loop-item-test.false
     c.deref-item-items.ensures.value in
     let p = err_from_is_err_and c.from_residual-in_err-list-2.result c.from_residual-in_err-list-2.ensures.1 in
@@ -819,7 +828,8 @@ arguments-named_argument-requires t c =
 pub arguments-returns-in_err-named_argument : goal.arguments-returns-in_err-named_argument
 arguments-returns-in_err-named_argument t c =
     let ps =
-    finished inline_in (inline_view string_bytes) c.loop-item.positional.items c.in_ok-list.field-0.now.items
+    items_read_when_all_are_so_far inline_in (inline_view string_bytes) c.loop-item.positional.items
+    c.in_ok-list.field-0.now.items
     c.deref-item-items.result.now c.loop-item.item-index c.loop-item.invariant c.loop-item-test.false
     c.deref-item-items.ensures.value in
     let p = err_from_is_err_and c.from_residual-in_err-named_argument.result
@@ -832,7 +842,8 @@ arguments-returns-in_err-named_argument t c =
       ps,
       c.in_ok-field-2.ensures,
       c.in_ok-list-2.ensures,
-      stopped named_in c.in_ok-list-2.field-0.now.items c.deref-item-items-2.result.now c.loop-item-2.item-index
+      item_that_fails_fails_items named_in c.in_ok-list-2.field-0.now.items c.deref-item-items-2.result.now
+          c.loop-item-2.item-index
           c.item-item-in-loop-item-2.result c.loop-item-2-test.true c.item-item-in-loop-item-2.is
           c.deref-item-items-2.ensures.value q,
     )) c.in_err-named_argument.ensures
@@ -846,11 +857,13 @@ arguments-loop-item-2-preserved t c =
 pub arguments-returns : goal.arguments-returns
 arguments-returns t c =
     let ps =
-    finished inline_in (inline_view string_bytes) c.loop-item.positional.items c.in_ok-list.field-0.now.items
+    items_read_when_all_are_so_far inline_in (inline_view string_bytes) c.loop-item.positional.items
+    c.in_ok-list.field-0.now.items
     c.deref-item-items.result.now c.loop-item.item-index c.loop-item.invariant c.loop-item-test.false
     c.deref-item-items.ensures.value in
     let ns =
-    finished named_in (named_view string_bytes) c.loop-item-2.nameds.items c.in_ok-list-2.field-0.now.items
+    items_read_when_all_are_so_far named_in (named_view string_bytes) c.loop-item-2.nameds.items
+    c.in_ok-list-2.field-0.now.items
     c.deref-item-items-2.result.now c.loop-item-2.item-index c.loop-item-2.invariant c.loop-item-2-test.false
     c.deref-item-items-2.ensures.value in
     rw (

@@ -3,7 +3,7 @@ use Rattle.std.proofs.lemmas.Result.{err_from_is_err_and}
 use Rattle.fluent_syntax_tree.specs.Entry.{group, regular, resource}
 use Rattle.fluent_syntax_grammar.specs.Comments.{comment_of}
 use Rattle.fluent_syntax_parser.proofs.entry_forms.CommentEntries.{comment_entry_is_made, level_of-other}
-use Rattle.fluent_syntax_parser.proofs.readers.Fails.{fails_seen, memory_is_err}
+use Rattle.fluent_syntax_parser.proofs.readers.Fails.{peek_fails_where_seen_part_fails, memory_is_err}
 use Rattle.fluent_syntax_parser.specs.Outcomes.{no_memory}
 use Rattle.fluent_syntax_parser.proofs.reader.Reader.add_comment.Goals as goal
 use Rattle.fluent_syntax_parser.proofs.reader.Reader.add_comment.Goals.{in-1, in-2, in_default}
@@ -12,8 +12,11 @@ pub returns-in_err-content-clause-adds : goal.returns-in_err-content-clause-adds
 returns-in_err-content-clause-adds g c =
     let t = c.args.self.now.source.bytes.now in
     let p = err_from_is_err_and c.from_residual.result c.from_residual.ensures.1 in
-    rw (p.1, p.2)
-    (fails_seen (comment_of t) _ c.comment_level-level.ensures.level c.in_err-content.ensures.parses, refl)
+    rw (p.1, p.2) (
+      peek_fails_where_seen_part_fails (comment_of t) _ c.comment_level-level.ensures.level
+          c.in_err-content.ensures.parses,
+      refl,
+    )
 
 pub returns-in_err-add-clause-adds : goal.returns-in_err-add-clause-adds
 returns-in_err-add-clause-adds g c =

@@ -5,7 +5,8 @@ use Rattle.fluent_syntax_tree.specs.Kind.{ExpectedMessageField}
 use Rattle.fluent_syntax_tree.specs.declared.spans.Span.{Span}
 use Rattle.fluent_syntax_grammar.specs.Construct.{stops, goes_on, at_place}
 use Rattle.fluent_syntax_grammar.specs.Entries.{message_with}
-use Rattle.fluent_syntax_parser.proofs.entry_forms.FieldForms.{fields_fail, fields_go_on, equals_are_both_some}
+use Rattle.fluent_syntax_parser.proofs.entry_forms.FieldForms.{entry_after_name_fails_where_fields_fail, fields_go_on}
+use Rattle.fluent_syntax_parser.proofs.entry_forms.FieldForms.{equals_are_both_some}
 use Rattle.fluent_syntax_parser.proofs.entry_forms.FieldForms.{message_form_of_attributes, message_form_of_value}
 use Rattle.fluent_syntax_parser.proofs.entry_forms.FieldForms.{message_without_fields_is_refused, zero_count_is_empty}
 use Rattle.fluent_syntax_parser.proofs.entry_forms.FieldForms.{list_with_image_of_empty_is_empty}
@@ -35,7 +36,8 @@ returns-in_err-fields-clause-adds g c =
     rw (p.1, p.2) (
       bind_fails_second here_is_functional at_place
           (bind_fails_second (identifier_is_functional t) c.in_ok-end.ensures.parses
-          (fields_fail c.args.self.now.edition t _ (message_with t c.args.start name) c.in_err-fields.ensures.parses)),
+          (entry_after_name_fails_where_fields_fail c.args.self.now.edition t _ (message_with t c.args.start name)
+          c.in_err-fields.ensures.parses)),
       refl,
     )
 

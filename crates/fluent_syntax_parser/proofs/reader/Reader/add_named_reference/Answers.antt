@@ -9,12 +9,13 @@ use Rattle.fluent_syntax_parser.specs.Outcomes.{no_memory, refused}
 use Rattle.fluent_syntax_parser.specs.declared.fault.Fault.TheVariants as fault
 use Rattle.fluent_syntax_parser.proofs.expressions.LastPlaced.{pushed_inline_is_added_as_placeable}
 use Rattle.fluent_syntax_parser.proofs.readers.Fails.{memory_is_err}
-use Rattle.fluent_syntax_parser.proofs.expressions.Given.{optional_arguments_of_none_are_none, some_given}
+use Rattle.fluent_syntax_parser.proofs.expressions.Given.{optional_arguments_of_none_are_none}
+use Rattle.fluent_syntax_parser.proofs.expressions.Given.{given_arguments_map_to_given}
 use Rattle.fluent_syntax_parser.proofs.reader.Reader.add_named_reference.Goals as goal
 
 pub returns-then-not-is_callee-clause-parses : goal.returns-then-not-is_callee-clause-parses
 returns-then-not-is_callee-clause-parses g c = λ a same.
-    let found = some_given _ a (ap (maybe_view g.M.MakeTexts.made) (sym c.in-Some.is) ∙ same) in
+    let found = given_arguments_map_to_given _ a (ap (maybe_view g.M.MakeTexts.made) (sym c.in-Some.is) ∙ same) in
     rw found.1 (refused {f = fault.Callee} {from = c.args.ptr} {place = c.args.ptr} (λ k from to (a, b, d).
     rw (a, b, d)
     (second (sym c.if-not-is_callee.ensures) (failed refl))))
@@ -30,7 +31,7 @@ returns-in_err-add_inline-in-Some-clause-parses g c = λ a same.
 
 pub returns-in_ok-add_inline-in-Some-clause-parses : goal.returns-in_ok-add_inline-in-Some-clause-parses
 returns-in_ok-add_inline-in-Some-clause-parses g c = λ a same.
-    let found = some_given _ a (ap (maybe_view g.M.MakeTexts.made) (sym c.in-Some.is) ∙ same) in
+    let found = given_arguments_map_to_given _ a (ap (maybe_view g.M.MakeTexts.made) (sym c.in-Some.is) ∙ same) in
     rw found.1 (
       _,
       first (sym c.if-not-is_callee.ensures) given,

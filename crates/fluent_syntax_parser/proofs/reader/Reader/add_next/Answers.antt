@@ -1,11 +1,13 @@
 use Rattle.std.proofs.Common.{◌<◌, ◌∷◌, ◌++◌, ◌∙◌, [], length, refl, sym, ap, arith}
 use Rattle.std.proofs.lemmas.Result.{err_from_is_err_and}
-use Rattle.fluent_syntax_parser.proofs.tilings.DeeperTiles.{after_comment, after_attached, after_one, entry_deeper}
+use Rattle.fluent_syntax_parser.proofs.tilings.DeeperTiles.{after_comment, after_attached, after_one}
+use Rattle.fluent_syntax_parser.proofs.tilings.DeeperTiles.{tile_is_too_deep_where_entry_is}
 use Rattle.fluent_syntax_parser.proofs.tilings.DeeperTiles.{attached_led, one_led, no_tile_is_deeper_at_end_of_text}
 use Rattle.fluent_syntax_parser.proofs.entry_forms.MadeEntries.{body_that_ends_with_comment_added_it}
 use Rattle.fluent_syntax_parser.proofs.entry_forms.MadeEntries.{body_that_ends_otherwise_added_no_comment}
 use Rattle.fluent_syntax_parser.specs.MadeEntries.{ends_with_comment}
-use Rattle.fluent_syntax_parser.proofs.tilings.Rests.{mode_has_tile, end_of_text_has_empty_rest, rest_comment}
+use Rattle.fluent_syntax_parser.proofs.tilings.Rests.{mode_has_tile, end_of_text_has_empty_rest}
+use Rattle.fluent_syntax_parser.proofs.tilings.Rests.{rest_begins_with_entry_with_comment}
 use Rattle.fluent_syntax_parser.proofs.tilings.Rests.{rest_holds_from_unattachable_tile}
 use Rattle.fluent_syntax_parser.proofs.reader.Reader.add_next.Goals as goal
 
@@ -77,7 +79,9 @@ returns-clause-next g c =
         order = (start.ensures.within.0, omega (arith, read.within.0, c.in_ok-end-2.ensures.within.0));
         kept = start.ensures.dropped;
         before = start.ensures.rest edition;
-        in_place = rest_comment edition t _ _ _ inside tile.tree put.error tile.yields is.content is.tree_is
+        in_place =
+            rest_begins_with_entry_with_comment edition t _ _ _ inside tile.tree put.error tile.yields is.content
+            is.tree_is
             c.args.comments start.ensures.dropped made.0 _ made.1;
       };
       same = made.2;
@@ -91,7 +95,8 @@ returns-in_err-end-clause-deeper g c =
     let start = c.tile_start-start in
     let inside = c.tile_start-start.ensures.within in
     rw (p.1, p.2) (λ e. start.ensures.deeper c.args.self.now.edition c.args.nesting
-    (entry_deeper c.args.self.now.edition c.args.self.now.source.bytes.now c.args.nesting c.args.comments _
+    (tile_is_too_deep_where_entry_is c.args.self.now.edition c.args.self.now.source.bytes.now c.args.nesting
+    c.args.comments _
     start.ensures.dropped
     (omega (arith, inside, c.if-start-self.false)) (c.in_err-end.ensures.deeper e)))
 

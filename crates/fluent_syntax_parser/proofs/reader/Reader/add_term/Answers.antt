@@ -7,7 +7,8 @@ use Rattle.fluent_syntax_tree.specs.Tree.{pattern_map}
 use Rattle.fluent_syntax_grammar.specs.Entries.{term_with}
 use Rattle.fluent_syntax_grammar.specs.Grammar.{within}
 use Rattle.fluent_syntax_parser.specs.Fields.{fields}
-use Rattle.fluent_syntax_parser.proofs.entry_forms.FieldForms.{fields_fail, fields_go_on, no_value_is_read_as_none}
+use Rattle.fluent_syntax_parser.proofs.entry_forms.FieldForms.{entry_after_name_fails_where_fields_fail, fields_go_on}
+use Rattle.fluent_syntax_parser.proofs.entry_forms.FieldForms.{no_value_is_read_as_none}
 use Rattle.fluent_syntax_parser.proofs.entry_forms.FieldForms.{some_value_is_read_as_some}
 use Rattle.fluent_syntax_grammar.specs.Bytes.{hyphen}
 use Rattle.fluent_syntax_grammar.proofs.FunctionalWords.{identifier_is_functional, token_is_functional}
@@ -45,7 +46,8 @@ returns-in_err-fields-clause-adds g c =
       bind_fails_second here_is_functional at_place
           (bind_fails_second (token_is_functional t hyphen) c.in_ok-letter.ensures.parses
           (bind_fails_second (identifier_is_functional t) c.in_ok-end.ensures.parses
-          (fields_fail c.args.self.now.edition t _ (term_with t c.args.start name) c.in_err-fields.ensures.parses))),
+          (entry_after_name_fails_where_fields_fail c.args.self.now.edition t _ (term_with t c.args.start name)
+          c.in_err-fields.ensures.parses))),
       refl,
     )
 

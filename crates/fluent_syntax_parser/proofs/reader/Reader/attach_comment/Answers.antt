@@ -9,7 +9,7 @@ use Rattle.fluent_syntax_parser.proofs.entry_forms.AttachesOn.{comment_attaches_
 use Rattle.fluent_syntax_parser.proofs.entry_forms.AttachesOn.{comment_attaches_not_to_refused_entry}
 use Rattle.fluent_syntax_parser.proofs.entry_forms.AttachesOn.{comment_attaches_not_to_other_entry}
 use Rattle.fluent_syntax_grammar.proofs.TotalEntries.{too_deep_entry_has_more_bytes_than_depth}
-use Rattle.fluent_syntax_parser.proofs.tilings.DeeperTiles.{after_one, entry_deeper, one_led}
+use Rattle.fluent_syntax_parser.proofs.tilings.DeeperTiles.{after_one, tile_is_too_deep_where_entry_is, one_led}
 use Rattle.fluent_syntax_parser.proofs.tilings.DeeperTiles.{text_is_deeper_by_its_tile, tile_is_deeper_by_its_text}
 use Rattle.fluent_syntax_parser.proofs.readers.Fails.{failure_is_refused_as, failure_is_too_deep}
 use Rattle.fluent_syntax_parser.proofs.readers.Made.{made_was_read}
@@ -126,7 +126,8 @@ returns-in-Err-TooDeep-clause-deeper g c =
     let left = too_deep_entry_has_more_bytes_than_depth c.args.self.now.edition t c.args.nesting c.args.ptr c.requires
     deep in
     λ e. text_is_deeper_by_its_tile c.args.self.now.edition t c.args.nesting Kept _ _ block
-    (entry_deeper c.args.self.now.edition t c.args.nesting Kept _ (λ f. cc) (omega (arith, left)) deep)
+    (tile_is_too_deep_where_entry_is c.args.self.now.edition t c.args.nesting Kept _ (λ f. cc) (omega (arith, left))
+    deep)
 
 pub returns-in-Err-TooDeep-clause-nests : goal.returns-in-Err-TooDeep-clause-nests
 returns-in-Err-TooDeep-clause-nests g c = λ e.

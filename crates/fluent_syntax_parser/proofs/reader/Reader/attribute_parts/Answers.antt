@@ -9,7 +9,7 @@ use Rattle.fluent_syntax_grammar.proofs.FunctionalWords.{identifier_is_functiona
 use Rattle.fluent_syntax_grammar.proofs.FunctionalWords.{token_is_functional}
 use Rattle.fluent_syntax_parser.specs.Outcomes.{refused}
 use Rattle.fluent_syntax_parser.proofs.readers.Made.{no_value_read, made_was_read, made_value_was_read}
-use Rattle.fluent_syntax_parser.proofs.readers.Fails.{fails_first, bind_fails_second}
+use Rattle.fluent_syntax_parser.proofs.readers.Fails.{bind_fails_where_first_fails, bind_fails_second}
 use Rattle.fluent_syntax_parser.proofs.reader.Reader.attribute_parts.Goals as goal
 
 pub returns-in_err-letter-clause-finds : goal.returns-in_err-letter-clause-finds
@@ -47,7 +47,7 @@ returns-in_err-value-clause-finds g c =
     (bind_fails_second (identifier_is_functional t) c.in_ok-name_end.ensures.parses
     (bind_fails_second (inline_blank_is_functional t) (passed c.skip_blank_inline-equals.ensures.blank)
     (bind_fails_second (token_is_functional t equals_sign) c.in_ok-start.ensures.parses
-    (fails_first c.in_err-value.ensures.parses))))))
+    (bind_fails_where_first_fails c.in_err-value.ensures.parses))))))
 
 pub returns-in-Some-clause-finds : goal.returns-in-Some-clause-finds
 returns-in-Some-clause-finds g c =

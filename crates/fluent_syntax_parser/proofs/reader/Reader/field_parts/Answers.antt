@@ -12,7 +12,7 @@ use Rattle.fluent_syntax_grammar.proofs.Nesting.{within_is_functional}
 use Rattle.fluent_syntax_parser.specs.Outcomes.{refused}
 use Rattle.fluent_syntax_parser.proofs.entry_forms.ExtentForms.{equal_options_same_place}
 use Rattle.fluent_syntax_parser.proofs.readers.Made.{made_was_read}
-use Rattle.fluent_syntax_parser.proofs.readers.Fails.{fails_first, bind_fails_second}
+use Rattle.fluent_syntax_parser.proofs.readers.Fails.{bind_fails_where_first_fails, bind_fails_second}
 use Rattle.fluent_syntax_parser.proofs.reader.Reader.field_parts.Goals as goal
 
 pub returns-in_err-start : goal.returns-in_err-start
@@ -29,7 +29,7 @@ returns-in_err-value g c =
     rw (p.1, p.2)
     (bind_fails_second (inline_blank_is_functional t) (passed c.skip_blank_inline-equals.ensures.blank)
     (bind_fails_second (token_is_functional t equals_sign) c.in_ok-start.ensures.parses
-    (fails_first c.in_err-value.ensures.parses)))
+    (bind_fails_where_first_fails c.in_err-value.ensures.parses)))
 
 pub returns-in_err-attributes : goal.returns-in_err-attributes
 returns-in_err-attributes g c =
@@ -42,7 +42,7 @@ returns-in_err-attributes g c =
     (bind_fails_second (token_is_functional t equals_sign) c.in_ok-start.ensures.parses
     (bind_fails_second (pattern_over_is_functional edition t _ (within_is_functional edition t _)) read
     (bind_fails_second (blank_block_is_functional t) (passed c.in_ok-value.ensures.beyond)
-    (fails_first c.in_err-attributes.ensures.finds))))))
+    (bind_fails_where_first_fails c.in_err-attributes.ensures.finds))))))
 
 pub returns : goal.returns
 returns g c =

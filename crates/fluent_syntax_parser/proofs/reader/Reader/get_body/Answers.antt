@@ -3,7 +3,7 @@ use Rattle.fluent_syntax_parser.specs.Rest.{faults_of}
 use Rattle.fluent_syntax_parser.proofs.entry_forms.MadeEntries.{body_made_to_end_is_whole, nothing_is_made_at_start}
 use Rattle.fluent_syntax_parser.proofs.entry_forms.MadeEntries.{made_body_grows_by_entry}
 use Rattle.fluent_syntax_parser.proofs.entry_forms.MadeEntries.{faults_of_stated_errors_append}
-use Rattle.fluent_syntax_parser.proofs.tilings.Rests.{entry_to}
+use Rattle.fluent_syntax_parser.proofs.tilings.Rests.{entry_at_leads_to_its_end}
 use Rattle.fluent_syntax_parser.proofs.reader.Reader.get_body.Goals as goal
 
 pub loop-errors-init : goal.loop-errors-init
@@ -25,7 +25,8 @@ loop-errors-preserved g c =
     let f = g.M.MakeTexts.source c.args.self.now.texts.now in
     let next = rw c.in-Some.is at c.in_ok-span.ensures.next in
     let in_place =
-    entry_to c.args.comments c.args.self.now.edition c.args.self.now.source.bytes.now _ _ _ next.tree _ next.in_place in
+    entry_at_leads_to_its_end c.args.comments c.args.self.now.edition c.args.self.now.source.bytes.now _ _ _ next.tree _
+    next.in_place in
     let nested = rw c.in-Some.is at c.in_ok-span.ensures.shallow in
     record {
       within = search rules;

@@ -9,7 +9,7 @@ use Rattle.fluent_syntax_grammar.proofs.Nesting.{within_is_functional}
 use Rattle.fluent_syntax_parser.specs.Outcomes.{refused}
 use Rattle.fluent_syntax_parser.specs.Made.{made}
 use Rattle.fluent_syntax_parser.proofs.readers.Made.{made_was_read}
-use Rattle.fluent_syntax_parser.proofs.readers.Fails.{fails_first, bind_fails_second}
+use Rattle.fluent_syntax_parser.proofs.readers.Fails.{bind_fails_where_first_fails, bind_fails_second}
 use Rattle.fluent_syntax_parser.proofs.reader.Reader.get_fields.Goals as goal
 
 pub returns-in_err-start-clause-parses : goal.returns-in_err-start-clause-parses
@@ -26,7 +26,7 @@ returns-in_err-value-clause-parses g c =
     rw (p.1, p.2)
     (bind_fails_second (inline_blank_is_functional t) (passed c.skip_blank_inline-equals.ensures.blank)
     (bind_fails_second (token_is_functional t equals_sign) c.in_ok-start.ensures.parses
-    (fails_first c.in_err-value.ensures.parses)))
+    (bind_fails_where_first_fails c.in_err-value.ensures.parses)))
 
 pub returns-in_err-attributes-clause-parses : goal.returns-in_err-attributes-clause-parses
 returns-in_err-attributes-clause-parses g c =
@@ -39,7 +39,7 @@ returns-in_err-attributes-clause-parses g c =
     (bind_fails_second (token_is_functional t equals_sign) c.in_ok-start.ensures.parses
     (bind_fails_second (pattern_over_is_functional edition t _ (within_is_functional edition t _)) read
     (bind_fails_second (blank_block_is_functional t) (passed c.in_ok-value.ensures.beyond)
-    (fails_first c.in_err-attributes.ensures.parses))))))
+    (bind_fails_where_first_fails c.in_err-attributes.ensures.parses))))))
 
 pub returns-clause-parses : goal.returns-clause-parses
 returns-clause-parses g c =

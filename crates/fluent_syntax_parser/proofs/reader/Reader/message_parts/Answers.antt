@@ -16,7 +16,7 @@ use Rattle.fluent_syntax_parser.proofs.entry_forms.ExtentForms.{no_attribute_ran
 use Rattle.fluent_syntax_parser.proofs.entry_forms.ExtentForms.{value_is_there_where_its_range_is}
 use Rattle.fluent_syntax_grammar.proofs.Functional.{here_is_functional}
 use Rattle.fluent_syntax_parser.proofs.readers.Fails.{bind_fails_second}
-use Rattle.fluent_syntax_parser.proofs.entry_forms.FieldForms.{fields_fail, fields_go_on}
+use Rattle.fluent_syntax_parser.proofs.entry_forms.FieldForms.{entry_after_name_fails_where_fields_fail, fields_go_on}
 use Rattle.fluent_syntax_parser.proofs.entry_forms.FieldForms.{message_form_of_attributes, message_form_of_value}
 use Rattle.fluent_syntax_parser.proofs.entry_forms.FieldForms.{message_without_fields_is_refused, zero_count_is_empty}
 use Rattle.fluent_syntax_parser.proofs.entry_forms.FieldForms.{nonzero_count_is_not_empty}
@@ -38,7 +38,8 @@ returns-in_err-value g c =
     rw (p.1, p.2)
     (bind_fails_second here_is_functional at_place
     (bind_fails_second (identifier_is_functional t) c.in_ok-end.ensures.parses
-    (fields_fail c.args.self.now.edition t _ (message_with t c.args.start name) c.in_err-value.ensures)))
+    (entry_after_name_fails_where_fields_fail c.args.self.now.edition t _ (message_with t c.args.start name)
+    c.in_err-value.ensures)))
 
 pub returns-then-is_empty : goal.returns-then-is_empty
 returns-then-is_empty g c =

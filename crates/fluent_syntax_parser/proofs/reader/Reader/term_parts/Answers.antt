@@ -15,7 +15,7 @@ use Rattle.fluent_syntax_parser.proofs.entry_forms.ExtentForms.{fields_with_valu
 use Rattle.fluent_syntax_parser.proofs.entry_forms.ExtentForms.{fields_without_value_range_have_none}
 use Rattle.fluent_syntax_grammar.proofs.Functional.{here_is_functional}
 use Rattle.fluent_syntax_parser.proofs.readers.Fails.{bind_fails_second}
-use Rattle.fluent_syntax_parser.proofs.entry_forms.FieldForms.{fields_fail, fields_go_on}
+use Rattle.fluent_syntax_parser.proofs.entry_forms.FieldForms.{entry_after_name_fails_where_fields_fail, fields_go_on}
 use Rattle.fluent_syntax_parser.proofs.scanning.NameTexts.{identifier_has_name_text, token_is_one_byte}
 use Rattle.fluent_syntax_parser.proofs.reader.Reader.term_parts.Goals as goal
 
@@ -41,7 +41,8 @@ returns-in_err-value g c =
     (bind_fails_second here_is_functional at_place
     (bind_fails_second (token_is_functional t hyphen) c.in_ok-letter.ensures.parses
     (bind_fails_second (identifier_is_functional t) c.in_ok-end.ensures.parses
-    (fields_fail c.args.self.now.edition t _ (term_with t c.args.start name) c.in_err-value.ensures))))
+    (entry_after_name_fails_where_fields_fail c.args.self.now.edition t _ (term_with t c.args.start name)
+    c.in_err-value.ensures))))
 
 pub returns-then-is_none : goal.returns-then-is_none
 returns-then-is_none g c =

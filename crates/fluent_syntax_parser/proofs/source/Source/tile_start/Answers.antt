@@ -1,5 +1,5 @@
 use Rattle.std.proofs.Common.{◌<◌, length, sym, arith}
-use Rattle.fluent_syntax_grammar.proofs.Functional.{single_block}
+use Rattle.fluent_syntax_grammar.proofs.Functional.{blank_block_ends_at_one_place}
 use Rattle.fluent_syntax_parser.proofs.tilings.DeeperTiles.{tile_is_deeper_by_text_after_dropped}
 use Rattle.fluent_syntax_parser.proofs.tilings.DeeperTiles.{text_after_dropped_is_deeper_by_tile}
 use Rattle.fluent_syntax_parser.proofs.tilings.DeeperTiles.{text_is_deeper_by_its_tile, tile_is_deeper_by_its_text}
@@ -17,7 +17,7 @@ loop-comments-init c =
           rest_holds_from_block_before c.args.comments edition t _ _ entries errors block.blank rest;
       deeper = λ edition n h. text_is_deeper_by_its_tile edition t n c.args.comments _ _ block.blank h;
       shallow = λ edition n h. tile_is_deeper_by_its_text edition t n c.args.comments _ _ block.blank h;
-      blank = λ all. single_block.same c.args.ptr _ _ block.blank all;
+      blank = λ all. blank_block_ends_at_one_place.same c.args.ptr _ _ block.blank all;
     }
 
 pub loop-comments-preserved : goal.loop-comments-preserved

@@ -2,9 +2,9 @@ use Rattle.std.proofs.Common.{arith, refl, ap, sym, ◌∙◌, ◌∷◌, ◌++�
 use Rattle.std.proofs.lemmas.Result.{err_from_is_err_and}
 use Rattle.std.specs.Prelude.{option_to_list}
 use Rattle.fluent_syntax_parser.specs.Rest.{faults_of, tree_of}
-use Rattle.fluent_syntax_parser.proofs.entry_forms.MadeEntries.{some_cancels}
+use Rattle.fluent_syntax_parser.proofs.entry_forms.MadeEntries.{equal_somes_have_equal_values}
 use Rattle.fluent_syntax_parser.specs.declared.options.Comments.TheVariants.{Kept}
-use Rattle.fluent_syntax_parser.proofs.tilings.DeeperTiles.{after_one, entry_deeper, one_led}
+use Rattle.fluent_syntax_parser.proofs.tilings.DeeperTiles.{after_one, tile_is_too_deep_where_entry_is, one_led}
 use Rattle.fluent_syntax_parser.proofs.tilings.DeeperTiles.{text_is_deeper_by_its_tile}
 use Rattle.fluent_syntax_parser.proofs.tilings.DeeperTiles.{no_tile_is_deeper_at_end_of_text}
 use Rattle.fluent_syntax_parser.proofs.tilings.DeeperTiles.{tile_is_deeper_by_its_text}
@@ -42,7 +42,7 @@ returns-clause-next c =
       yields = record {
         entry =
             found.entry ∙ ap (λ e. e ∷ []) (sym (made.same ∙ identity_keeps_entry made.tree))
-            ∙ ap (λ e. tree_of e ∷ []) (sym (some_cancels c.in-Some.entry put.entry same));
+            ∙ ap (λ e. tree_of e ∷ []) (sym (equal_somes_have_equal_values c.in-Some.entry put.entry same));
         errors = found.errors ∙ ap faults_of (sym stated);
       };
       ends = refl;
@@ -58,7 +58,8 @@ returns-in_err-end-clause-deeper c =
     let inside : c.skip_blank_block-start.result < length t = omega (arith, start.within, c.if-start-source.false) in
     let halt = err_from_is_err_and c.from_residual.result c.from_residual.ensures.1 in
     rw (halt.1, halt.2) (λ e. text_is_deeper_by_its_tile tiles.edition t tiles.nesting Kept _ _ start.blank
-    (entry_deeper tiles.edition t tiles.nesting Kept _ (λ dropped. cc) inside (c.in_err-end.ensures.deeper e)))
+    (tile_is_too_deep_where_entry_is tiles.edition t tiles.nesting Kept _ (λ dropped. cc) inside
+    (c.in_err-end.ensures.deeper e)))
 
 pub returns-then-start-source-clause-shallow : goal.returns-then-start-source-clause-shallow
 returns-then-start-source-clause-shallow c = λ deeper.

@@ -1,13 +1,13 @@
 use Rattle.fluent_syntax_tree.specs.Every.{attribute_every}
 use Rattle.fluent_syntax_tree.specs.View.{attribute_view}
-use Rattle.fluent_syntax_tree.proofs.Every.{every_item}
+use Rattle.fluent_syntax_tree.proofs.Every.{item_of_every_list_has_it}
 use Rattle.fluent_syntax_tree.proofs.Lists.{maps_agree_on_push}
 use Rattle.fluent_syntax_tree.proofs.copied.entries.attributes.Goals as goal
 
 pub attribute-requires : goal.attribute-requires
 attribute-requires g c = record {
   each =
-      every_item (attribute_every (g.C.CopyTexts.can c.args.by.now)) (attribute_view (λ x. x))
+      item_of_every_list_has_it (attribute_every (g.C.CopyTexts.can c.args.by.now)) (attribute_view (λ x. x))
       c.args.attributes.now.items c.deref-item-items.result.now c.loop-item.item-index c.item-item.result
       c.requires.each c.deref-item-items.ensures.value c.loop-item-test.true c.item-item.is;
 }

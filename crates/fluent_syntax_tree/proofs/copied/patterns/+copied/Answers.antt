@@ -2,10 +2,11 @@ use Rattle.std.proofs.Common.{Some, None, option_map, sym, ap, ◌∙◌, subst,
 use Rattle.fluent_syntax_tree.specs.declared.ast.Expression.{the_lemmas}
 use Rattle.fluent_syntax_tree.specs.Every.{inline_every, element_every, named_every, variant_every, maybe_every}
 use Rattle.fluent_syntax_tree.specs.Tree.{arguments_of}
-use Rattle.fluent_syntax_tree.proofs.Every.{every_item, every-Select, every-Inline, every-FunctionReference}
+use Rattle.fluent_syntax_tree.proofs.Every.{item_of_every_list_has_it, every-Select, every-Inline}
+use Rattle.fluent_syntax_tree.proofs.Every.{every-FunctionReference}
 use Rattle.fluent_syntax_tree.proofs.Every.{every-TermReference, every-InlinePlaceable, every-Placeable, every-Variant}
 use Rattle.fluent_syntax_tree.proofs.Every.{every-NamedArgument, every-Pattern, every-CallArguments}
-use Rattle.fluent_syntax_tree.proofs.Lists.{maps_agree_on_push, maps_agree}
+use Rattle.fluent_syntax_tree.proofs.Lists.{maps_agree_on_push, maps_of_whole_prefix_agree}
 use Rattle.fluent_syntax_tree.proofs.Views.{view-Pattern, view-Select, same-CallArguments, same-TermReference}
 use Rattle.fluent_syntax_tree.specs.Tree.{elements_of}
 use Rattle.fluent_syntax_tree.specs.View.{inline_view, element_view, arguments_view, named_view, variant_view}
@@ -16,7 +17,7 @@ pub pattern-element-requires : goal.pattern-element-requires
 pattern-element-requires g t c =
     let can = g.C.CopyTexts.can c.args.by.now in
     let each =
-    every_item (element_every can) (element_view (λ x. x)) c.args.pattern.now.elements.items
+    item_of_every_list_has_it (element_every can) (element_view (λ x. x)) c.args.pattern.now.elements.items
     c.deref-item-items.result.now c.loop-item.item-index c.item-item.result
     (every-Pattern (λ x. x) can c.args.pattern.now c.requires.each) c.deref-item-items.ensures.value
     c.loop-item-test.true c.item-item.is in
@@ -33,7 +34,8 @@ pub expression-variant-requires : goal.expression-variant-requires
 expression-variant-requires g t c =
     let can = g.C.CopyTexts.can c.args.by.now in
     let each =
-    every_item (variant_every can) (variant_view (λ x. x)) c.in-Select.variants.items c.deref-item-items.result.now
+    item_of_every_list_has_it (variant_every can) (variant_view (λ x. x)) c.in-Select.variants.items
+    c.deref-item-items.result.now
     c.loop-item.item-index c.item-item.result
     (every-Select (λ x. x) can c.args.expression.now c.in-Select.selector c.in-Select.variants
     c.in-Select.is c.requires.each).1 c.deref-item-items.ensures.value c.loop-item-test.true c.item-item.is in
@@ -67,7 +69,7 @@ pub arguments-inline-requires : goal.arguments-inline-requires
 arguments-inline-requires g t c =
     let can = g.C.CopyTexts.can c.args.by.now in
     let each =
-    every_item (inline_every can) (inline_view (λ x. x))
+    item_of_every_list_has_it (inline_every can) (inline_view (λ x. x))
     (out-CallArguments g.row.X.Denot c.args.arguments.now).positional.items c.deref-item-items.result.now
     c.loop-item.item-index c.item-item.result
     (every-CallArguments (λ x. x) can c.args.arguments.now c.requires.each).0
@@ -78,7 +80,7 @@ pub arguments-named_argument-requires : goal.arguments-named_argument-requires
 arguments-named_argument-requires g t c =
     let can = g.C.CopyTexts.can c.args.by.now in
     let each =
-    every_item (named_every can) (named_view (λ x. x))
+    item_of_every_list_has_it (named_every can) (named_view (λ x. x))
     (out-CallArguments g.row.X.Denot c.args.arguments.now).named.items c.deref-item-items-2.result.now
     c.loop-item-2.item-index c.item-item-in-loop-item-2.result
     (every-CallArguments (λ x. x) can c.args.arguments.now c.requires.each).1
@@ -123,7 +125,9 @@ pattern-loop-item-preserved g t c =
 pub pattern-returns : goal.pattern-returns
 pattern-returns g t c =
     view-Pattern _ _
-    ∙ ap elements_of (maps_agree (element_view g.C.CopyTexts.made) (element_view (g.C.CopyTexts.source c.args.by.now))
+    ∙ ap elements_of
+    (maps_of_whole_prefix_agree (element_view g.C.CopyTexts.made)
+    (element_view (g.C.CopyTexts.source c.args.by.now))
     _ _ _ c.loop-item.item-index c.loop-item.invariant c.loop-item-test.false c.deref-item-items.ensures.value)
     ∙ sym (view-Pattern _ _)
 
@@ -145,7 +149,7 @@ expression-loop-item-preserved g t c =
 pub arguments-returns : goal.arguments-returns
 arguments-returns g t c =
     same-CallArguments g.C.CopyTexts.made (g.C.CopyTexts.source c.args.by.now) _ c.args.arguments.now
-    c.loop-item-2.invariant.0 (maps_agree (named_view g.C.CopyTexts.made)
+    c.loop-item-2.invariant.0 (maps_of_whole_prefix_agree (named_view g.C.CopyTexts.made)
     (named_view (g.C.CopyTexts.source c.args.by.now)) _ _ _ c.loop-item-2.item-index c.loop-item-2.invariant.1
     c.loop-item-2-test.false c.deref-item-items-2.ensures.value)
 
@@ -154,7 +158,7 @@ expression-returns-in_ok-inline-in-Select g t c =
     let f = g.C.CopyTexts.made in
     let h = g.C.CopyTexts.source c.args.by.now in
     let vs =
-    maps_agree (variant_view f) (variant_view h) _ _ _ c.loop-item.item-index c.loop-item.invariant
+    maps_of_whole_prefix_agree (variant_view f) (variant_view h) _ _ _ c.loop-item.item-index c.loop-item.invariant
     c.loop-item-test.false c.deref-item-items.ensures.value in
     cc (
       view-Select f c.in_ok-inline-in-Select.field-0 c.loop-item.copies,

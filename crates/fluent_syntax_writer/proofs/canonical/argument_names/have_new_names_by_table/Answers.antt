@@ -7,7 +7,7 @@ use Rattle.fluent_syntax_grammar.proofs.NameKeys.{inserted_key_notes_its_name}
 use Rattle.fluent_syntax_writer.specs.Names.{name_of}
 use Rattle.fluent_syntax_writer.proofs.rules.Named.{new_names, one_new_name, with_name, first_new_name, used}
 use Rattle.fluent_syntax_writer.proofs.rules.Named.{used-next, table-used}
-use Rattle.fluent_syntax_writer.proofs.rules.Steps.{item_passes, item_breaks}
+use Rattle.fluent_syntax_writer.proofs.rules.Steps.{rest_decides_after_item_that_passes, item_that_breaks_decides_rest}
 use Rattle.fluent_syntax_writer.proofs.canonical.argument_names.have_new_names_by_table.Goals as goal
 
 pub returns-then-not-branch : goal.returns-then-not-branch
@@ -21,7 +21,8 @@ returns-then-not-branch g c =
     table-used f (λ k. k.now) c.loop-argument.table.keys earlier c.argument-item.result key is
     c.loop-argument.invariant.noted in
     let fails = ap not (sym found) ∙ sym c.in_ok-insert.ensures.added ∙ c.if-not-branch.true in
-    item_breaks (new_names f) (one_new_name f) (with_name f) (first_new_name f) (used f earlier) named _ _ _
+    item_that_breaks_decides_rest (new_names f) (one_new_name f) (with_name f) (first_new_name f) (used f earlier) named
+    _ _ _
     c.loop-argument-test.true c.argument-item.is fails c.loop-argument.invariant.rest
 
 pub loop-argument-preserved : goal.loop-argument-preserved
@@ -38,7 +39,8 @@ loop-argument-preserved g c =
     c.loop-argument.invariant.noted in
     let holds = ap not (sym found) ∙ sym c.in_ok-insert.ensures.added ∙ c.if-not-branch.false in
     let rest =
-    item_passes (new_names f) (one_new_name f) (with_name f) (first_new_name f) (used f earlier) named _ _ _
+    rest_decides_after_item_that_passes (new_names f) (one_new_name f) (with_name f) (first_new_name f) (used f earlier)
+    named _ _ _
     c.loop-argument-test.true c.argument-item.is holds c.loop-argument.invariant.rest in
     let all : map (name_of f) (take (i + 1) named) ≡ names ++ key ∷ [] =
     map_more (name_of f) named i c.argument-item.result c.loop-argument-test.true

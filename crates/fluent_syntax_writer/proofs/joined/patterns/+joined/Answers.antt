@@ -1,7 +1,7 @@
 use Rattle.std.proofs.Common.{◌+◌, None, Some, map, option_map, drop, string_bytes, sym, ap, ◌∙◌}
 use Rattle.fluent_syntax_tree.specs.Tree.{arguments_of, some_arguments, elements, elements_of}
 use Rattle.fluent_syntax_tree.specs.View.{expression_view, element_view, arguments_view, named_view, variant_view}
-use Rattle.fluent_syntax_tree.proofs.Lists.{maps_agree}
+use Rattle.fluent_syntax_tree.proofs.Lists.{maps_of_whole_prefix_agree}
 use Rattle.fluent_syntax_tree.proofs.Views.{view-Pattern, view-Placeable}
 use Rattle.fluent_syntax_grammar.specs.Joined.{joined_maybe, joined_named, joined_pattern, joined_variant}
 use Rattle.fluent_syntax_writer.specs.Joining.{before_pattern, joined_from}
@@ -15,7 +15,8 @@ pub arguments-returns : goal.arguments-returns
 arguments-returns g t c =
     let text = g.T.ReadTexts.text in
     joined-CallArguments string_bytes text _ c.args.arguments.now c.loop-item-2.invariant.0
-    (maps_agree (named_view string_bytes) (λ n. joined_named (named_view text n)) _ _ _ c.loop-item-2.item-index
+    (maps_of_whole_prefix_agree (named_view string_bytes) (λ n. joined_named (named_view text n)) _ _ _
+    c.loop-item-2.item-index
     c.loop-item-2.invariant.1 c.loop-item-2-test.false c.deref-item-items-2.ensures.value)
 
 pub expression-returns-in_ok-inline-in-Select : goal.expression-returns-in_ok-inline-in-Select
@@ -23,7 +24,8 @@ expression-returns-in_ok-inline-in-Select g t c =
     let text = g.T.ReadTexts.text in
     joined-Select string_bytes text c.in_ok-inline-in-Select.field-0 c.in-Select.selector c.loop-item.copies
     c.in-Select.variants c.args.expression.now c.in-Select.is c.in_ok-inline-in-Select.ensures
-    (maps_agree (variant_view string_bytes) (λ v. joined_variant (variant_view text v)) _ _ _ c.loop-item.item-index
+    (maps_of_whole_prefix_agree (variant_view string_bytes) (λ v. joined_variant (variant_view text v)) _ _ _
+    c.loop-item.item-index
     c.loop-item.invariant c.loop-item-test.false c.deref-item-items.ensures.value)
 
 pub inline-returns-in-None : goal.inline-returns-in-None

@@ -2,7 +2,7 @@ use Rattle.std.proofs.Common.{◌≡◌, ◌∙◌, Some, inl, inr, rules, subst
 use Rattle.ftl_files.specs.Files.{GoesOn, at_path, renamed}
 use Rattle.ftl_files.specs.Memory.{bytes_at, bytes_of, files_of}
 use Rattle.ftl_files.proofs.Changed.{goes_on_to_change}
-use Rattle.ftl_files.proofs.Steps.{then}
+use Rattle.ftl_files.proofs.Steps.{GoesOn-trans}
 use Rattle.ftl_files.proofs.memory.MemoryFileSystem.rename.Goals as goal
 
 -- the new name was given, and the old one not yet taken
@@ -28,4 +28,5 @@ returns-clause-changes c =
     let first = goes_on_to_change _ _ made.0 changes made.3
     (λ path left is was. inr (is ∙ made.1, (c.in-Some.bytes.now, was ∙ came, inl had_bytes))) in
     let second = goes_on_to_change _ _ taken.0 (at_path c.args.from.now) taken.3 (λ path left is was. is ∙ taken.1) in
-    then _ _ _ changes (at_path c.args.from.now) changes first second (λ p left is. is) (λ p left same. inl same)
+    GoesOn-trans _ _ _ changes (at_path c.args.from.now) changes first second (λ p left is. is)
+    (λ p left same. inl same)

@@ -3,7 +3,7 @@ use Rattle.std.proofs.lemmas.Result.{IfOk-weaker}
 use Rattle.ftl_files.specs.Kinds.{reported_name}
 use Rattle.ftl_project.specs.Comparing.{IsFileReport}
 use Rattle.ftl_project.specs.Differences.{is_reported}
-use Rattle.ftl_project.proofs.DiagnosticTexts.{report_as}
+use Rattle.ftl_project.proofs.DiagnosticTexts.{report_of_equal_parts_is_report}
 use Rattle.ftl_project.proofs.comparing.Comparing.file_report.Goals as goal
 
 pub returns : goal.returns
@@ -13,7 +13,9 @@ returns c =
     let kind = c.args.kind in
     let message = string_bytes c.args.message in
     let stated : is_reported options.ignored.now kind [] ≡ true = search (rules, c.if-not-is_reported.false) in
-    let report = report_as c.diagnostic_text.result options.form c.as_str.result.now (string_bytes pair.other) None
+    let report =
+    report_of_equal_parts_is_report c.diagnostic_text.result options.form c.as_str.result.now
+    (string_bytes pair.other) None
     c.name.result.now (reported_name kind) None message message c.as_str.ensures.value c.name.ensures refl
     c.diagnostic_text.ensures in
     IfOk-weaker c.diagnostic_text.result _ _

@@ -31,12 +31,14 @@ use Rattle.fluent_syntax_parser.proofs.expressions.ArgumentLists.{no_arguments_a
 use Rattle.fluent_syntax_parser.proofs.expressions.ArgumentLists.{argument_fails_with_its_named_rest}
 use Rattle.fluent_syntax_parser.proofs.expressions.ArgumentLists.{one_named, positional_argument_is_made_next}
 use Rattle.fluent_syntax_parser.proofs.expressions.ArgumentLists.{positional, byte_is_token}
-use Rattle.fluent_syntax_parser.proofs.readers.ContinuesFrom.{item_fails}
-use Rattle.fluent_syntax_parser.proofs.readers.Fails.{fails_first, argument_list_in_nonzero_depth_fails_alike}
-use Rattle.fluent_syntax_parser.proofs.readers.Fails.{bind_fails_second, fails_no, branch_fails_with_first_when_true}
+use Rattle.fluent_syntax_parser.proofs.readers.ContinuesFrom.{many_fails_where_item_fails}
+use Rattle.fluent_syntax_parser.proofs.readers.Fails.{bind_fails_where_first_fails}
+use Rattle.fluent_syntax_parser.proofs.readers.Fails.{argument_list_in_nonzero_depth_fails_alike}
+use Rattle.fluent_syntax_parser.proofs.readers.Fails.{bind_fails_second, branch_on_false_fails_where_second_fails}
+use Rattle.fluent_syntax_parser.proofs.readers.Fails.{branch_fails_with_first_when_true}
 use Rattle.fluent_syntax_parser.proofs.readers.Fails.{argument_list_is_in_nonzero_depth}
 use Rattle.fluent_syntax_parser.proofs.readers.Fails.{call_at_depth_zero_is_too_deep, memory_is_err}
-use Rattle.fluent_syntax_parser.proofs.expressions.LastPlaced.{placed_in}
+use Rattle.fluent_syntax_parser.proofs.expressions.LastPlaced.{expression_is_placed_in_equal_list}
 use Rattle.fluent_syntax_parser.proofs.expressions.InlineStarts.{inline_at_value_start_is_argument_value}
 use Rattle.fluent_syntax_parser.proofs.expressions.InlineStarts.{argument_value_at_other_start_is_refused}
 use Rattle.fluent_syntax_parser.proofs.expressions.InlineStarts.{argument_value_fails_as_its_inline}
@@ -71,7 +73,7 @@ get_call_arguments-returns-in_err-arguments-clause-parses g m c =
     (bind_fails_second (blank_is_functional t) (passed c.skip_blank-start.ensures.blank)
     (bind_fails_second (optional_is_functional t left_parenthesis) c.take_byte_if-bracket.ensures.parses
     (branch_fails_with_first_when_true c.if-not-bracket.false
-    (fails_first
+    (bind_fails_where_first_fails
     (bind_fails_second (blank_is_functional t) (passed c.skip_blank-start-2.ensures.blank)
     (argument_list_in_nonzero_depth_fails_alike c.args.self.now.edition t c.if-nesting-eq0.false
     c.in_err-arguments.ensures.parses))))))
@@ -121,7 +123,7 @@ add_argument_value-returns-in_default g m c = record {
 pub get_arguments-last_inline-requires : goal.get_arguments-last_inline-requires
 get_arguments-last_inline-requires g m c =
     let (e, read, added) = c.in_ok-next.ensures.parses in
-    (_, _, placed_in g.M.MakeTexts.made _ _ c.deref.ensures.value added)
+    (_, _, expression_is_placed_in_equal_list g.M.MakeTexts.made _ _ c.deref.ensures.value added)
 
 pub get_arguments-add_named-requires : goal.get_arguments-add_named-requires
 get_arguments-add_named-requires g m c =
@@ -133,7 +135,7 @@ get_arguments-add_positional-requires g m c =
 
 pub get_arguments-returns-then-place-self-clause-parses : goal.get_arguments-returns-then-place-self-clause-parses
 get_arguments-returns-then-place-self-clause-parses g m c =
-    item_fails c.loop-noted.invariant.gathered.beyond (refused (λ k from to (a, b, d). rw (a, b, d)
+    many_fails_where_item_fails c.loop-noted.invariant.gathered.beyond (refused (λ k from to (a, b, d). rw (a, b, d)
     (argument_list_at_end_of_text_is_refused c.args.self.now.source.bytes.now _ _ _
     (omega (arith, c.if-place-self.true)))))
 
@@ -143,7 +145,7 @@ get_arguments-returns-in_err-next-clause-parses g m c =
     let t = c.args.self.now.source.bytes.now in
     let p = err_from_is_err_and c.from_residual.result c.from_residual.ensures.1 in
     rw (p.1, p.2)
-    (item_fails c.loop-noted.invariant.gathered.beyond
+    (many_fails_where_item_fails c.loop-noted.invariant.gathered.beyond
     (argument_fails_with_its_inline t _ _ _ (omega (arith, c.if-place-self.false, c.loop-noted.invariant.within))
     (sym c.loop-noted-test.ensures) c.in_err-next.ensures.parses))
 
@@ -154,11 +156,13 @@ get_arguments-returns-then-not-is_new-clause-parses g m c =
     let used = name_is_used_in_either_order t (bytes_at t c.in-Some.name) names ∙ c.in_ok-is_new-in-Some.ensures.new
     ∙ ap not c.if-not-is_new.true in
     let (e, read, added) = c.in_ok-next.ensures.parses in
-    let there = c.last_inline.ensures _ _ (placed_in g.M.MakeTexts.made _ _ c.deref.ensures.value added) in
+    let there =
+    c.last_inline.ensures _ _
+    (expression_is_placed_in_equal_list g.M.MakeTexts.made _ _ c.deref.ensures.value added) in
     let is = sym (c.in-Some.ensures c.args.nesting _ e read there) in
     let text = sym (argument_name_is_name_text_there t _ _ e _ read c.in-Some.name is) in
     let next = c.in_ok-next.next in
-    item_fails c.loop-noted.invariant.gathered.beyond
+    many_fails_where_item_fails c.loop-noted.invariant.gathered.beyond
     (refused {f = fault.Duplicated} {from = c.loop-noted.place} {place = next} (λ k from to (a, b, d).
     rw (a ∙ ap DuplicatedNamedArgument text, b, d)
     (named t _ (names_in t names) _
@@ -178,19 +182,21 @@ get_arguments-returns-in_err-end-in-Some-clause-parses g m c =
     ∙ ap not c.if-not-is_new.false in
     let mark = sym c.if-is_byte_at.ensures in
     let (e, read, added) = c.in_ok-next.ensures.parses in
-    let there = c.last_inline.ensures _ _ (placed_in g.M.MakeTexts.made _ _ c.deref.ensures.value added) in
+    let there =
+    c.last_inline.ensures _ _
+    (expression_is_placed_in_equal_list g.M.MakeTexts.made _ _ c.deref.ensures.value added) in
     let p = err_from_is_err_and c.from_residual-in_err-end-in-Some.result
     c.from_residual-in_err-end-in-Some.ensures.1 in
     rw (p.1, p.2)
-    (item_fails c.loop-noted.invariant.gathered.beyond
+    (many_fails_where_item_fails c.loop-noted.invariant.gathered.beyond
     (argument_fails_with_its_named_rest t _ (names_in t names) _
     (omega (arith, c.if-place-self.false, c.loop-noted.invariant.within)) (sym c.loop-noted-test.ensures) e _
     read (within_is_functional c.args.self.now.edition t _) c.in-Some.name
     (sym (c.in-Some.ensures c.args.nesting _ e read there)) mark
-    (fails_no new
+    (branch_on_false_fails_where_second_fails new
     (bind_fails_second (token_is_functional t colon) (byte_is_token t colon _ mark)
     (bind_fails_second (blank_is_functional t) (passed c.skip_blank-start.ensures.blank)
-    (fails_first c.in_err-end-in-Some.ensures.parses))))))
+    (bind_fails_where_first_fails c.in_err-end-in-Some.ensures.parses))))))
 
 pub get_arguments-returns-clause-parses : goal.get_arguments-returns-clause-parses
 get_arguments-returns-clause-parses g m c =
@@ -214,7 +220,9 @@ get_arguments-loop-noted-preserved-then-is_byte_at g m c =
     let noted = c.in_ok-is_new-in-Some.ensures.noted c.if-not-is_new.false in
     let named = c.in_ok-add_named-in-Some.ensures in
     let (e, read, added) = c.in_ok-next.ensures.parses in
-    let there = c.last_inline.ensures _ _ (placed_in g.M.MakeTexts.made _ _ c.deref.ensures.value added) in
+    let there =
+    c.last_inline.ensures _ _
+    (expression_is_placed_in_equal_list g.M.MakeTexts.made _ _ c.deref.ensures.value added) in
     let (value, read_value, added_value) = c.in_ok-end-in-Some.ensures.parses in
     record {
       forward =
@@ -245,13 +253,15 @@ get_arguments-returns-then-not-is_empty-clause-parses g m c =
     let old = c.loop-noted in
     let some = some_are_named old.noted.names.items c.if-not-is_empty.ensures in
     let (e, read, added) = c.in_ok-next.ensures.parses in
-    let there = c.last_inline.ensures _ _ (placed_in g.M.MakeTexts.made _ _ c.deref.ensures.value added) in
+    let there =
+    c.last_inline.ensures _ _
+    (expression_is_placed_in_equal_list g.M.MakeTexts.made _ _ c.deref.ensures.value added) in
     let is : (argument_name e ≡ None) ⊎ (has_byte t colon c.in_ok-next.next ≡ false) =
     elim c.in_default.branch [
       | get_arguments-in_default-via-in-Some+else-is_byte_at w ↦ inr (sym w.if-is_byte_at.ensures)
       | get_arguments-in_default-via-in_default w ↦ inl (sym (w.in_default.ensures c.args.nesting _ e read there))
     ] in
-    item_fails old.invariant.gathered.beyond (refused (λ k from to (a, b, d). rw (a, b, d)
+    many_fails_where_item_fails old.invariant.gathered.beyond (refused (λ k from to (a, b, d). rw (a, b, d)
     (positional t _ (names_in t old.noted.names.items) old.place
     (omega (arith, c.if-place-self.false, old.invariant.within)) (sym c.loop-noted-test.ensures) e _
     read is _
@@ -266,7 +276,9 @@ get_arguments-loop-noted-preserved g m c =
     let none = none_are_named old.noted.names.items c.if-not-is_empty.ensures in
     let argument = c.in_ok-add_positional-in_default.ensures in
     let (e, read, added) = c.in_ok-next.ensures.parses in
-    let there = c.last_inline.ensures _ _ (placed_in g.M.MakeTexts.made _ _ c.deref.ensures.value added) in
+    let there =
+    c.last_inline.ensures _ _
+    (expression_is_placed_in_equal_list g.M.MakeTexts.made _ _ c.deref.ensures.value added) in
     let is : (argument_name e ≡ None) ⊎ (has_byte t colon c.in_ok-next.next ≡ false) =
     elim c.in_default.branch [
       | get_arguments-in_default-via-in-Some+else-is_byte_at w ↦ inr (sym w.if-is_byte_at.ensures)

@@ -10,7 +10,8 @@ use Rattle.fluent_syntax_grammar.proofs.FunctionalRules.{accessor_is_functional}
 use Rattle.fluent_syntax_grammar.proofs.FunctionalWords.{identifier_is_functional, token_is_functional}
 use Rattle.fluent_syntax_grammar.proofs.Nesting.{within_is_functional}
 use Rattle.fluent_syntax_parser.specs.Outcomes.{no_memory, refused}
-use Rattle.fluent_syntax_parser.proofs.readers.Fails.{fails_first, bind_fails_second, fails_seen, memory_is_err}
+use Rattle.fluent_syntax_parser.proofs.readers.Fails.{bind_fails_where_first_fails, bind_fails_second}
+use Rattle.fluent_syntax_parser.proofs.readers.Fails.{peek_fails_where_seen_part_fails, memory_is_err}
 use Rattle.fluent_syntax_parser.proofs.expressions.InlineStarts.{inline_of_its_start_is_inline}
 use Rattle.fluent_syntax_parser.proofs.expressions.InlineStarts.{start_of_number_is_digit_or_minus, Pushes-named}
 use Rattle.fluent_syntax_parser.proofs.expressions.LastPlaced.{added_placeable_has_equal_tree}
@@ -58,11 +59,11 @@ add_term_reference-returns-in_err-arguments-clause-parses g m c =
     let t = c.args.self.now.source.bytes.now in
     let p = err_from_is_err_and c.from_residual-in_err-arguments.result c.from_residual-in_err-arguments.ensures.1 in
     rw (p.1, p.2)
-    (fails_seen (inline_of t _) starts.term c.requires.starts
+    (peek_fails_where_seen_part_fails (inline_of t _) starts.term c.requires.starts
     (bind_fails_second (token_is_functional t hyphen) c.in_ok-start.ensures.parses
     (bind_fails_second (identifier_is_functional t) c.in_ok-end.ensures.parses
     (bind_fails_second (accessor_is_functional t) c.in_ok-attribute.ensures.parses
-    (fails_first c.in_err-arguments.ensures.parses)))))
+    (bind_fails_where_first_fails c.in_err-arguments.ensures.parses)))))
 
 pub add_term_reference-returns-clause-parses : goal.add_term_reference-returns-clause-parses
 add_term_reference-returns-clause-parses g m c =
@@ -99,9 +100,9 @@ add_reference-returns-in_err-arguments-clause-parses g m c =
     let t = c.args.self.now.source.bytes.now in
     let p = err_from_is_err_and c.from_residual-in_err-arguments.result c.from_residual-in_err-arguments.ensures.1 in
     rw (p.1, p.2)
-    (fails_seen (inline_of t _) starts.letter c.requires.starts
+    (peek_fails_where_seen_part_fails (inline_of t _) starts.letter c.requires.starts
     (bind_fails_second (identifier_is_functional t) c.in_ok-end.ensures.parses
-    (fails_first c.in_err-arguments.ensures.parses)))
+    (bind_fails_where_first_fails c.in_err-arguments.ensures.parses)))
 
 pub add_reference-returns-clause-parses : goal.add_reference-returns-clause-parses
 add_reference-returns-clause-parses g m c =
@@ -118,8 +119,8 @@ add_inner_placeable-returns-in_err-end-clause-parses g m c =
     let t = c.args.self.now.source.bytes.now in
     let p = err_from_is_err_and c.from_residual.result c.from_residual.ensures.1 in
     rw (p.1, p.2)
-    (fails_seen (inline_of t _) starts.brace c.requires.starts
-    (fails_first c.in_err-end.ensures.parses))
+    (peek_fails_where_seen_part_fails (inline_of t _) starts.brace c.requires.starts
+    (bind_fails_where_first_fails c.in_err-end.ensures.parses))
 
 pub add_inner_placeable-returns-in_err-wrap_last-clause-parses :
     goal.add_inner_placeable-returns-in_err-wrap_last-clause-parses

@@ -20,10 +20,12 @@ use Rattle.fluent_syntax_parser.specs.Opened.{none}
 use Rattle.fluent_syntax_parser.specs.Outcomes.{no_memory, refused}
 use Rattle.fluent_syntax_parser.proofs.entry_forms.FieldForms.{zero_count_is_empty as no_elements}
 use Rattle.fluent_syntax_parser.proofs.entry_forms.FieldForms.{nonzero_count_is_not_empty}
-use Rattle.fluent_syntax_parser.proofs.readers.ContinuesFrom.{items_made_to_end_are_list, item_fails, item_is_made_next}
+use Rattle.fluent_syntax_parser.proofs.readers.ContinuesFrom.{items_made_to_end_are_list, many_fails_where_item_fails}
+use Rattle.fluent_syntax_parser.proofs.readers.ContinuesFrom.{item_is_made_next}
 use Rattle.fluent_syntax_parser.proofs.readers.ContinuesFrom.{no_items_are_made_at_start}
 use Rattle.fluent_syntax_grammar.proofs.Functional.{here_is_functional}
-use Rattle.fluent_syntax_parser.proofs.readers.Fails.{fails_first, bind_fails_second, fails_seen}
+use Rattle.fluent_syntax_parser.proofs.readers.Fails.{bind_fails_where_first_fails, bind_fails_second}
+use Rattle.fluent_syntax_parser.proofs.readers.Fails.{peek_fails_where_seen_part_fails}
 use Rattle.fluent_syntax_parser.proofs.readers.Fails.{jump_is_functional, memory_is_err}
 use Rattle.fluent_syntax_parser.proofs.readers.Made.{made_was_read}
 use Rattle.fluent_syntax_parser.proofs.patterns.BlankLines.{block_at_no_byte_is_empty, block_before_other_line_is_empty}
@@ -35,12 +37,14 @@ use Rattle.fluent_syntax_parser.proofs.patterns.Opening.{placeable_is_made_next_
 use Rattle.fluent_syntax_parser.proofs.patterns.Opening.{opening_is_read_with_its_last_run}
 use Rattle.fluent_syntax_parser.proofs.patterns.Opening.{settled_pieces_map_to_settled}
 use Rattle.fluent_syntax_parser.proofs.patterns.Rest.{empty_run_at_text_end_has_no_items}
-use Rattle.fluent_syntax_parser.proofs.patterns.Spelled.{layout_spelled, no_elements_spell_no_pattern}
+use Rattle.fluent_syntax_parser.proofs.patterns.Spelled.{layout_is_spelled_by_settled_pieces}
+use Rattle.fluent_syntax_parser.proofs.patterns.Spelled.{no_elements_spell_no_pattern}
 use Rattle.fluent_syntax_parser.proofs.patterns.Spelled.{some_elements_spell_pattern}
 use Rattle.fluent_syntax_parser.proofs.patterns.Pieces.{closing_brace_is_refused_as_piece}
 use Rattle.fluent_syntax_parser.proofs.patterns.Pieces.{no_piece_is_read_at_end_of_text, line_is_read_from_its_parts}
 use Rattle.fluent_syntax_parser.proofs.patterns.Pieces.{no_piece_is_read_at_eol, line_takes_bytes}
-use Rattle.fluent_syntax_parser.proofs.patterns.Pieces.{own_line_fails, further, piece_at_brace_fails_as_placeable}
+use Rattle.fluent_syntax_parser.proofs.patterns.Pieces.{own_line_fails, run_that_passes_goes_further}
+use Rattle.fluent_syntax_parser.proofs.patterns.Pieces.{piece_at_brace_fails_as_placeable}
 use Rattle.fluent_syntax_parser.proofs.patterns.Pieces.{placeable_at_brace_is_next_piece}
 use Rattle.fluent_syntax_parser.proofs.patterns.Pieces.{run_at_plain_byte_is_next_piece}
 use Rattle.fluent_syntax_parser.proofs.patterns.Pieces.{run_there}
@@ -64,9 +68,9 @@ add_opening-returns-in-Some-clause-opens g m c =
       read = λ ls end h. layout_by_its_eol_is_layout t _ _ _ _ c.in-Some.ensures.eol
           (goes_on (passed (record { there = refl })) (goes_on (passed blank) (goes_on h given)));
       fails = λ e h.
-          fails_seen (layout_at t _) _ c.in-Some.ensures.eol
+          peek_fails_where_seen_part_fails (layout_at t _) _ c.in-Some.ensures.eol
           (bind_fails_second jump_is_functional (passed (record { there = refl }))
-          (bind_fails_second (blank_block_is_functional t) (passed blank) (fails_first h)));
+          (bind_fails_second (blank_block_is_functional t) (passed blank) (bind_fails_where_first_fails h)));
     }
 
 pub add_opening-loop-elements-init : goal.add_opening-loop-elements-init
@@ -109,9 +113,9 @@ add_opening-returns-in-Some-eq125-clause-opens g m c =
     let f = g.M.MakeTexts.source c.args.self.now.texts.now in
     let old = c.loop-elements.invariant in
     let found = sym (rw c.in-Some-eq125.field-0-test at c.in-Some-eq125.ensures) in
-    fails_seen (layout_at t R) _ (sym old.unended)
+    peek_fails_where_seen_part_fails (layout_at t R) _ (sym old.unended)
     (bind_fails_second here_is_functional at_place
-    (fails_first (opening_fails_with_its_next_piece t R f g.M.MakeTexts.made _
+    (bind_fails_where_first_fails (opening_fails_with_its_next_piece t R f g.M.MakeTexts.made _
     (next_piece_is_functional t R (within_is_functional c.args.self.now.edition t _)) _ _ c.run_end-to.ensures.run _
     old.gathered.beyond (refused (λ k from to (a, b, d). rw (a, b, d)
     (closing_brace_is_refused_as_piece t R _ _ found (rw found refl) refl))))))
@@ -127,13 +131,13 @@ add_opening-returns-in_err-place-in-Some-eq123-clause-opens g m c =
     let p = err_from_is_err_and c.from_residual-in_err-place-in-Some-eq123.result
     c.from_residual-in_err-place-in-Some-eq123.ensures.1 in
     rw (p.1, p.2)
-    (fails_seen (layout_at t R) _ (sym old.unended)
+    (peek_fails_where_seen_part_fails (layout_at t R) _ (sym old.unended)
     (bind_fails_second here_is_functional at_place
-    (fails_first (opening_fails_with_its_next_piece t R f g.M.MakeTexts.made _
+    (bind_fails_where_first_fails (opening_fails_with_its_next_piece t R f g.M.MakeTexts.made _
     (next_piece_is_functional t R (within_is_functional c.args.self.now.edition t _)) _ _ c.run_end-to.ensures.run _
     old.gathered.beyond
     (piece_at_brace_fails_as_placeable t R _ _ found (rw found refl) refl
-    (fails_first c.in_err-place-in-Some-eq123.ensures.parses))))))
+    (bind_fails_where_first_fails c.in_err-place-in-Some-eq123.ensures.parses))))))
 
 pub add_opening-returns-in_err-add_text_run-in-Some-eq123-clause-opens :
     goal.add_opening-returns-in_err-add_text_run-in-Some-eq123-clause-opens
@@ -178,10 +182,10 @@ add_opening-returns-in_default-byte_at-clause-opens g m c =
       read = λ ls last h. layout_by_its_eol_is_layout t _ _ _ _ (sym old.unended)
           (goes_on at_place (goes_on there (goes_on ends (goes_on h given))));
       fails = λ e h.
-          fails_seen (layout_at t R) _ (sym old.unended)
+          peek_fails_where_seen_part_fails (layout_at t R) _ (sym old.unended)
           (bind_fails_second here_is_functional at_place
           (bind_fails_second (pieces_are_functional t R functional) there
-          (bind_fails_second (ending_is_functional t) ends (fails_first h))));
+          (bind_fails_second (ending_is_functional t) ends (bind_fails_where_first_fails h))));
     }
 
 pub add_opening-returns-in_default-byte_at-clause-rest : goal.add_opening-returns-in_default-byte_at-clause-rest
@@ -195,7 +199,7 @@ get_long_pattern-returns-in_err-opening-clause-parses g m c =
     let t = c.args.self.now.source.bytes.now in
     let p = err_from_is_err_and c.from_residual.result c.from_residual.ensures.1 in
     rw (p.1, p.2)
-    (fails_first
+    (bind_fails_where_first_fails
     (bind_fails_second (inline_blank_is_functional t) (passed c.requires.blank) c.in_err-opening.ensures.opens))
 
 pub get_long_pattern-returns-in_err-end-clause-parses : goal.get_long_pattern-returns-in_err-end-clause-parses
@@ -203,7 +207,7 @@ get_long_pattern-returns-in_err-end-clause-parses g m c =
     let t = c.args.self.now.source.bytes.now in
     let p = err_from_is_err_and c.from_residual-in_err-end.result c.from_residual-in_err-end.ensures.1 in
     rw (p.1, p.2)
-    (fails_first (bind_fails_second (inline_blank_is_functional t) (passed c.requires.blank)
+    (bind_fails_where_first_fails (bind_fails_second (inline_blank_is_functional t) (passed c.requires.blank)
     (c.in_ok-opening.ensures.opens.fails _ c.in_err-end.ensures.parses)))
 
 pub get_long_pattern-returns-in_err-end_elements-clause-parses :
@@ -222,7 +226,8 @@ get_long_pattern-returns-then-is_empty-clause-parses g m c =
     let none = no_elements elements.items _ size c.if-is_empty.ensures in
     made_was_read c.in_ok-end.ensures.parses (λ ls there same.
     let made_of = append_to_equal_is_all _ c.in_ok-end_elements.ensures opened.made
-    (layout_spelled f t c.args.self.now.edition (record { opening = opened.opening; lines = ls }) opened.settled _
+    (layout_is_spelled_by_settled_pieces f t c.args.self.now.edition (record { opening = opened.opening; lines = ls })
+    opened.settled _
     opened.same _ same) in
     made (goes_on (goes_on (passed c.requires.blank) (opened.read ls _ there)) given)
     (no_elements_spell_no_pattern f g.M.MakeTexts.made _ elements.items made_of none))
@@ -236,7 +241,8 @@ get_long_pattern-returns-else-is_empty-clause-parses g m c =
     let size : length elements.items ≡ vec_len elements = omega (arith, elements.ok.0) in
     made_was_read c.in_ok-end.ensures.parses (λ ls there same.
     let made_of = append_to_equal_is_all _ c.in_ok-end_elements.ensures opened.made
-    (layout_spelled f t c.args.self.now.edition (record { opening = opened.opening; lines = ls }) opened.settled _
+    (layout_is_spelled_by_settled_pieces f t c.args.self.now.edition (record { opening = opened.opening; lines = ls })
+    opened.settled _
     opened.same _ same) in
     made (goes_on (goes_on (passed c.requires.blank) (opened.read ls _ there)) given)
     (some_elements_spell_pattern f g.M.MakeTexts.made _ (record { elements = elements }) made_of
@@ -273,7 +279,7 @@ gather_pieces-returns-then-is_eol_at-clause-parses g m c =
 
 pub gather_pieces-returns-then-byte-eq125-clause-parses : goal.gather_pieces-returns-then-byte-eq125-clause-parses
 gather_pieces-returns-then-byte-eq125-clause-parses g m c =
-    item_fails c.loop-elements.invariant.gathered.beyond (refused (λ k from to (a, b, d). rw (a, b, d)
+    many_fails_where_item_fails c.loop-elements.invariant.gathered.beyond (refused (λ k from to (a, b, d). rw (a, b, d)
     (closing_brace_is_refused_as_piece c.args.self.now.source.bytes.now
     (within c.args.self.now.edition c.args.self.now.source.bytes.now
     c.args.nesting) _ _
@@ -285,12 +291,12 @@ pub gather_pieces-returns-in_err-place-in-Some-clause-parses :
 gather_pieces-returns-in_err-place-in-Some-clause-parses g m c =
     let p = err_from_is_err_and c.from_residual.result c.from_residual.ensures.1 in
     rw (p.1, p.2)
-    (item_fails c.loop-elements.invariant.gathered.beyond
+    (many_fails_where_item_fails c.loop-elements.invariant.gathered.beyond
     (piece_at_brace_fails_as_placeable c.args.self.now.source.bytes.now
     (within c.args.self.now.edition c.args.self.now.source.bytes.now
     c.args.nesting) _ _
     (sym c.in-Some.ensures) (sym c.if-is_eol_at.ensures)
-    c.if-byte-eq123.true (fails_first c.in_err-place-in-Some.ensures.parses)))
+    c.if-byte-eq123.true (bind_fails_where_first_fails c.in_err-place-in-Some.ensures.parses)))
 
 pub gather_pieces-loop-elements-preserved-in-Continue-branch-2 :
     goal.gather_pieces-loop-elements-preserved-in-Continue-branch-2
@@ -359,7 +365,7 @@ gather_pieces-loop-elements-smaller g m c =
     let run = c.run_end-to.ensures.run in
     let there = run_there t (within c.args.self.now.edition t c.args.nesting) _ _ (sym c.in-Some.ensures)
     (sym c.if-is_eol_at.ensures) c.if-byte-eq125.false c.if-byte-eq123.false in
-    let longer = further (is_run_place t) c.loop-elements.place c.run_end-to.result run there in
+    let longer = run_that_passes_goes_further (is_run_place t) c.loop-elements.place c.run_end-to.result run there in
     omega (arith, longer, c.run_end-to.ensures.within)
 
 pub gather_line-returns-in_err-end-clause-adds : goal.gather_line-returns-in_err-end-clause-adds
@@ -370,7 +376,7 @@ gather_line-returns-in_err-end-clause-adds g m c =
       bind_fails_second here_is_functional at_place
           (bind_fails_second (inline_blank_is_functional t) (passed c.requires.blank)
           (bind_fails_second here_is_functional at_place
-          (fails_first c.in_err-end.ensures.parses))),
+          (bind_fails_where_first_fails c.in_err-end.ensures.parses))),
       refl,
     )
 
@@ -426,9 +432,10 @@ gather_lines-returns-in_err-start-in-Some-clause-parses g m c =
     let t = c.args.self.now.source.bytes.now in
     let p = err_from_is_err_and c.from_residual.result c.from_residual.ensures.1 in
     rw (p.1, p.2)
-    (item_fails c.loop-byte.invariant.gathered.beyond
+    (many_fails_where_item_fails c.loop-byte.invariant.gathered.beyond
     (own_line_fails t (within c.args.self.now.edition t c.args.nesting) c.skip_blank_inline-first.ensures.blank
-    (sym c.in-Some.ensures) (sym c.if-not-belongs.ensures) (fails_first c.in_err-start-in-Some.ensures.adds.0)))
+    (sym c.in-Some.ensures) (sym c.if-not-belongs.ensures)
+    (bind_fails_where_first_fails c.in_err-start-in-Some.ensures.adds.0)))
 
 pub gather_lines-loop-byte-preserved : goal.gather_lines-loop-byte-preserved
 gather_lines-loop-byte-preserved g m c =

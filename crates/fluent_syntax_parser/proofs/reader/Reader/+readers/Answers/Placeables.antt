@@ -7,9 +7,11 @@ use Rattle.fluent_syntax_grammar.specs.Expressions.{is_term_attribute}
 use Rattle.fluent_syntax_grammar.proofs.FunctionalWords.{blank_is_functional, token_is_functional}
 use Rattle.fluent_syntax_grammar.proofs.Nesting.{within_is_functional}
 use Rattle.fluent_syntax_parser.specs.Outcomes.{refused, too_deep}
-use Rattle.fluent_syntax_parser.proofs.readers.Fails.{braces, expression_in_nonzero_depth_fails_alike, fails_first}
+use Rattle.fluent_syntax_parser.proofs.readers.Fails.{expression_in_braces_is_in_family}
+use Rattle.fluent_syntax_parser.proofs.readers.Fails.{expression_in_nonzero_depth_fails_alike}
+use Rattle.fluent_syntax_parser.proofs.readers.Fails.{bind_fails_where_first_fails}
 use Rattle.fluent_syntax_parser.proofs.readers.Fails.{bind_fails_second, placeable_at_depth_zero_is_too_deep}
-use Rattle.fluent_syntax_parser.proofs.expressions.LastPlaced.{placed_in}
+use Rattle.fluent_syntax_parser.proofs.expressions.LastPlaced.{expression_is_placed_in_equal_list}
 use Rattle.fluent_syntax_parser.proofs.readers.Made.{mapping_keeps_is_term_attribute}
 use Rattle.fluent_syntax_parser.proofs.expressions.Selects.{select_is_read_past_blank}
 use Rattle.fluent_syntax_parser.proofs.reader.Reader.+readers.Goals as goal
@@ -31,7 +33,8 @@ add_placeable-returns-in_err-ptr-clause-parses g m c =
     rw (p.1, p.2)
     (bind_fails_second (token_is_functional t left_brace) c.in_ok-start.ensures.parses
     (bind_fails_second (blank_is_functional t) (passed c.skip_blank-start.ensures.blank)
-    (fails_first (expression_in_nonzero_depth_fails_alike c.args.self.now.edition t c.if-nesting-eq0.false
+    (bind_fails_where_first_fails
+    (expression_in_nonzero_depth_fails_alike c.args.self.now.edition t c.if-nesting-eq0.false
     c.in_err-ptr.ensures.parses))))
 
 pub add_placeable-returns-in_err-end-clause-parses : goal.add_placeable-returns-in_err-end-clause-parses
@@ -41,7 +44,9 @@ add_placeable-returns-in_err-end-clause-parses g m c =
     rw (p.1, p.2) (refused (λ k from to h.
     goes_on c.in_ok-start.ensures.parses
     (goes_on (passed c.skip_blank-start.ensures.blank)
-    (goes_on (braces c.args.self.now.edition c.args.self.now.source.bytes.now _ _ _ c.if-nesting-eq0.false read)
+    (goes_on
+    (expression_in_braces_is_in_family c.args.self.now.edition c.args.self.now.source.bytes.now _ _ _
+    c.if-nesting-eq0.false read)
     (goes_on (passed c.skip_blank_inline-ptr.ensures.blank)
     (stops (c.in_err-end.ensures.parses k from to h)))))))
 
@@ -51,7 +56,9 @@ add_placeable-returns-clause-parses g m c =
       a,
       goes_on c.in_ok-start.ensures.parses
           (goes_on (passed c.skip_blank-start.ensures.blank)
-          (goes_on (braces c.args.self.now.edition c.args.self.now.source.bytes.now _ _ _ c.if-nesting-eq0.false read)
+          (goes_on
+          (expression_in_braces_is_in_family c.args.self.now.edition c.args.self.now.source.bytes.now _ _ _
+          c.if-nesting-eq0.false read)
           (goes_on (passed c.skip_blank_inline-ptr.ensures.blank)
           (goes_on c.in_ok-end.ensures.parses
           given)))),
@@ -61,7 +68,7 @@ add_placeable-returns-clause-parses g m c =
 pub add_expression-returns-in_err-ptr-clause-parses : goal.add_expression-returns-in_err-ptr-clause-parses
 add_expression-returns-in_err-ptr-clause-parses g m c =
     let p = err_from_is_err_and c.from_residual.result c.from_residual.ensures.1 in
-    rw (p.1, p.2) (fails_first c.in_err-ptr.ensures.parses)
+    rw (p.1, p.2) (bind_fails_where_first_fails c.in_err-ptr.ensures.parses)
 
 pub add_expression-returns-then-is_arrow-clause-parses : goal.add_expression-returns-then-is_arrow-clause-parses
 add_expression-returns-then-is_arrow-clause-parses g m c =
@@ -76,7 +83,7 @@ pub add_expression-returns-then-is_term_attribute-clause-parses :
 add_expression-returns-then-is_term_attribute-clause-parses g m c =
     let v = g.M.MakeTexts.made in
     let (e, read, added) = c.in_ok-ptr.ensures.parses in
-    let there = c.last_inline.ensures _ _ (placed_in v _ _ c.deref.ensures.value added) in
+    let there = c.last_inline.ensures _ _ (expression_is_placed_in_equal_list v _ _ c.deref.ensures.value added) in
     refused (λ k from to (a, b, d). rw (a, b, d)
     (goes_on read
     (goes_on (passed c.skip_blank-ptr.ensures.blank)
@@ -90,7 +97,7 @@ pub add_expression-returns-clause-parses : goal.add_expression-returns-clause-pa
 add_expression-returns-clause-parses g m c =
     let v = g.M.MakeTexts.made in
     let (e, read, added) = c.in_ok-ptr.ensures.parses in
-    let there = c.last_inline.ensures _ _ (placed_in v _ _ c.deref.ensures.value added) in (
+    let there = c.last_inline.ensures _ _ (expression_is_placed_in_equal_list v _ _ c.deref.ensures.value added) in (
       _,
       goes_on read
           (goes_on (passed c.skip_blank-ptr.ensures.blank)
@@ -106,7 +113,7 @@ add_expression-returns-clause-parses g m c =
 pub add_expression-last_inline-requires : goal.add_expression-last_inline-requires
 add_expression-last_inline-requires g m c =
     let (e, read, added) = c.in_ok-ptr.ensures.parses in
-    (_, _, placed_in g.M.MakeTexts.made _ _ c.deref.ensures.value added)
+    (_, _, expression_is_placed_in_equal_list g.M.MakeTexts.made _ _ c.deref.ensures.value added)
 
 pub add_expression-end_select-requires : goal.add_expression-end_select-requires
 add_expression-end_select-requires g m c = λ κs le.

@@ -3,7 +3,7 @@ use Rattle.std.proofs.Common.{◌∙◌, refl, sym, ap, arith}
 use Rattle.std.proofs.lemmas.Result.{err_from_is_err_and}
 use Rattle.fluent_syntax_tree.specs.Tree.{inline_map, pattern_map, select, variant}
 use Rattle.fluent_syntax_tree.specs.View.{key_view}
-use Rattle.fluent_syntax_grammar.proofs.Tests.{both_true}
+use Rattle.fluent_syntax_grammar.proofs.Tests.{true_and_true}
 use Rattle.fluent_syntax_parser.proofs.expressions.Stars.{and_with_a_false_is_false}
 use Rattle.fluent_syntax_grammar.specs.Bytes.{asterisk, left_bracket, right_bracket}
 use Rattle.fluent_syntax_grammar.specs.Construct.{stops, goes_on, given, failed, passed, first, second}
@@ -14,14 +14,16 @@ use Rattle.fluent_syntax_grammar.proofs.FunctionalWords.{blank_is_functional, op
 use Rattle.fluent_syntax_grammar.proofs.FunctionalWords.{token_is_functional}
 use Rattle.fluent_syntax_grammar.proofs.Nesting.{within_is_functional}
 use Rattle.fluent_syntax_parser.specs.Outcomes.{no_memory, refused}
-use Rattle.fluent_syntax_parser.proofs.readers.ContinuesFrom.{item_fails}
-use Rattle.fluent_syntax_parser.proofs.readers.Fails.{fails_first, bind_fails_second, branch_fails_with_first_when_true}
+use Rattle.fluent_syntax_parser.proofs.readers.ContinuesFrom.{many_fails_where_item_fails}
+use Rattle.fluent_syntax_parser.proofs.readers.Fails.{bind_fails_where_first_fails, bind_fails_second}
+use Rattle.fluent_syntax_parser.proofs.readers.Fails.{branch_fails_with_first_when_true}
 use Rattle.fluent_syntax_parser.proofs.readers.Fails.{star_is_functional}
 use Rattle.fluent_syntax_parser.proofs.readers.Fails.{memory_is_err}
 use Rattle.fluent_syntax_parser.proofs.expressions.GatheredVariants.{variants_made_to_end_are_all}
 use Rattle.fluent_syntax_parser.proofs.expressions.GatheredVariants.{no_variants_are_made_at_start}
 use Rattle.fluent_syntax_parser.proofs.expressions.GatheredVariants.{variant_is_made_next}
-use Rattle.fluent_syntax_parser.proofs.expressions.LastPlaced.{added_placeable_has_equal_tree, placed_in}
+use Rattle.fluent_syntax_parser.proofs.expressions.LastPlaced.{added_placeable_has_equal_tree}
+use Rattle.fluent_syntax_parser.proofs.expressions.LastPlaced.{expression_is_placed_in_equal_list}
 use Rattle.fluent_syntax_parser.proofs.readers.Made.{no_value_read, made_was_read, made_value_was_read}
 use Rattle.fluent_syntax_parser.proofs.expressions.Selects.{select_start_is_functional, same_selector_fault_of_tree}
 use Rattle.fluent_syntax_parser.proofs.expressions.Selects.{select_fails_with_its_variants}
@@ -31,12 +33,14 @@ use Rattle.fluent_syntax_parser.proofs.reader.Reader.+readers.Goals as goal
 pub end_select-last_inline-requires : goal.end_select-last_inline-requires
 end_select-last_inline-requires g m c =
     let (old, tree, added) = c.requires.selector in
-    (old, tree, placed_in g.M.MakeTexts.made _ _ c.deref.ensures.value added)
+    (old, tree, expression_is_placed_in_equal_list g.M.MakeTexts.made _ _ c.deref.ensures.value added)
 
 pub end_select-returns-in_err-start-clause-parses : goal.end_select-returns-in_err-start-clause-parses
 end_select-returns-in_err-start-clause-parses g m c = λ old e added.
     let t = c.args.self.now.source.bytes.now in
-    let there = c.last_inline.ensures old _ (placed_in g.M.MakeTexts.made _ _ c.deref.ensures.value added) in
+    let there =
+    c.last_inline.ensures old _
+    (expression_is_placed_in_equal_list g.M.MakeTexts.made _ _ c.deref.ensures.value added) in
     let p = err_from_is_err_and c.from_residual.result c.from_residual.ensures.1 in
     rw (p.1, p.2)
     (select_fails_with_its_variants c.args.self.now.edition t _ e _ (same_selector_fault_of_tree _ _ e there)
@@ -45,7 +49,9 @@ end_select-returns-in_err-start-clause-parses g m c = λ old e added.
 pub end_select-returns-in_err-end-clause-parses : goal.end_select-returns-in_err-end-clause-parses
 end_select-returns-in_err-end-clause-parses g m c = λ old e added.
     let t = c.args.self.now.source.bytes.now in
-    let there = c.last_inline.ensures old _ (placed_in g.M.MakeTexts.made _ _ c.deref.ensures.value added) in
+    let there =
+    c.last_inline.ensures old _
+    (expression_is_placed_in_equal_list g.M.MakeTexts.made _ _ c.deref.ensures.value added) in
     let p = err_from_is_err_and c.from_residual-in_err-end.result c.from_residual-in_err-end.ensures.1 in
     rw (p.1, p.2)
     (select_fails_with_its_variants c.args.self.now.edition t _ e _ (same_selector_fault_of_tree _ _ e there)
@@ -60,7 +66,7 @@ pub end_select-returns-clause-parses : goal.end_select-returns-clause-parses
 end_select-returns-clause-parses g m c = λ old e added.
     let t = c.args.self.now.source.bytes.now in
     let v = g.M.MakeTexts.made in
-    let there = c.last_inline.ensures old _ (placed_in v _ _ c.deref.ensures.value added) in
+    let there = c.last_inline.ensures old _ (expression_is_placed_in_equal_list v _ _ c.deref.ensures.value added) in
     made_was_read c.in_ok-end.ensures.parses (λ vs read same. (
       _,
       read_variants_are_read_as_select c.args.self.now.edition t _ e _ (same_selector_fault_of_tree _ _ e there)
@@ -71,10 +77,10 @@ end_select-returns-clause-parses g m c = λ old e added.
 
 pub gather_variants-returns-then-star-clause-parses : goal.gather_variants-returns-then-star-clause-parses
 gather_variants-returns-then-star-clause-parses g m c =
-    item_fails c.loop-starred.invariant.gathered.beyond (refused (λ k from to (a, b, d). rw (a, b, d)
+    many_fails_where_item_fails c.loop-starred.invariant.gathered.beyond (refused (λ k from to (a, b, d). rw (a, b, d)
     (goes_on c.take_byte_if-star.ensures.parses
     (stops
-    (first (both_true c.if-starred.true c.if-star.true)
+    (first (true_and_true c.if-starred.true c.if-star.true)
     (failed refl))))))
 
 pub gather_variants-returns-then-has_default-clause-parses : goal.gather_variants-returns-then-has_default-clause-parses
@@ -89,7 +95,7 @@ gather_variants-returns-then-has_default-clause-parses g m c =
 
 pub gather_variants-returns-then-not-bracket-clause-parses : goal.gather_variants-returns-then-not-bracket-clause-parses
 gather_variants-returns-then-not-bracket-clause-parses g m c =
-    item_fails c.loop-starred.invariant.gathered.beyond (refused (λ k from to (a, b, d). rw (a, b, d)
+    many_fails_where_item_fails c.loop-starred.invariant.gathered.beyond (refused (λ k from to (a, b, d). rw (a, b, d)
     (goes_on c.take_byte_if-star.ensures.parses
     (goes_on (second (and_with_a_false_is_false _ _ c.else-starred.either) given)
     (goes_on c.take_byte_if-bracket.ensures.parses
@@ -100,7 +106,7 @@ gather_variants-returns-then-not-bracket-clause-parses g m c =
 pub gather_variants-returns-in_err-key-clause-parses : goal.gather_variants-returns-in_err-key-clause-parses
 gather_variants-returns-in_err-key-clause-parses g m c =
     let p = err_from_is_err_and c.from_residual.result c.from_residual.ensures.1 in
-    rw (p.1, p.2) (item_fails c.loop-starred.invariant.gathered.beyond (refused (λ k from to h.
+    rw (p.1, p.2) (many_fails_where_item_fails c.loop-starred.invariant.gathered.beyond (refused (λ k from to h.
     (goes_on c.take_byte_if-star.ensures.parses
     (goes_on (second (and_with_a_false_is_false _ _ c.else-starred.either) given)
     (goes_on c.take_byte_if-bracket.ensures.parses
@@ -111,7 +117,7 @@ gather_variants-returns-in_err-key-clause-parses g m c =
 pub gather_variants-returns-in_err-next-clause-parses : goal.gather_variants-returns-in_err-next-clause-parses
 gather_variants-returns-in_err-next-clause-parses g m c =
     let p = err_from_is_err_and c.from_residual-in_err-next.result c.from_residual-in_err-next.ensures.1 in
-    rw (p.1, p.2) (item_fails c.loop-starred.invariant.gathered.beyond (refused (λ k from to h.
+    rw (p.1, p.2) (many_fails_where_item_fails c.loop-starred.invariant.gathered.beyond (refused (λ k from to h.
     (goes_on c.take_byte_if-star.ensures.parses
     (goes_on (second (and_with_a_false_is_false _ _ c.else-starred.either) given)
     (goes_on c.take_byte_if-bracket.ensures.parses
@@ -127,7 +133,7 @@ gather_variants-returns-in_err-value-clause-parses g m c =
     let t = c.args.self.now.source.bytes.now in
     let p = err_from_is_err_and c.from_residual-in_err-value.result c.from_residual-in_err-value.ensures.1 in
     rw (p.1, p.2)
-    (item_fails c.loop-starred.invariant.gathered.beyond
+    (many_fails_where_item_fails c.loop-starred.invariant.gathered.beyond
     (bind_fails_second (optional_is_functional t asterisk) c.take_byte_if-star.ensures.parses
     (bind_fails_second (star_is_functional c.loop-starred.starred c.take_byte_if-star.result.0)
     (second (and_with_a_false_is_false _ _ c.else-starred.either) given)
@@ -137,7 +143,7 @@ gather_variants-returns-in_err-value-clause-parses g m c =
     (bind_fails_second (key_is_functional t) c.in_ok-key.ensures.parses
     (bind_fails_second (blank_is_functional t) (passed c.skip_blank-next.ensures.blank)
     (bind_fails_second (token_is_functional t right_bracket) c.in_ok-next.ensures.parses
-    (fails_first c.in_err-value.ensures.parses))))))))))
+    (bind_fails_where_first_fails c.in_err-value.ensures.parses))))))))))
 
 pub gather_variants-returns-in_default-clause-parses : goal.gather_variants-returns-in_default-clause-parses
 gather_variants-returns-in_default-clause-parses g m c =
@@ -146,7 +152,7 @@ gather_variants-returns-in_default-clause-parses g m c =
     let value_read = pattern c.args.self.now.edition t (within c.args.self.now.edition t c.args.nesting) in
     made_was_read found (λ o read same.
     let none = no_value_read (pattern_map (g.M.MakeTexts.source c.args.self.now.texts.now)) value_read o read same in
-    item_fails c.loop-starred.invariant.gathered.beyond (refused (λ k from to (a, b, d). rw (a, b, d)
+    many_fails_where_item_fails c.loop-starred.invariant.gathered.beyond (refused (λ k from to (a, b, d). rw (a, b, d)
     (goes_on c.take_byte_if-star.ensures.parses
     (goes_on (second (and_with_a_false_is_false _ _ c.else-starred.either) given)
     (goes_on c.take_byte_if-bracket.ensures.parses

@@ -5,7 +5,7 @@ use Rattle.serde_json.specs.View.{view}
 use Rattle.ftl_lsp.specs.Replies.{refused, silence, sends_none}
 use Rattle.ftl_lsp.specs.Sessions.{garbled, responded, session_of, unasked}
 use Rattle.ftl_lsp.specs.declared.sessions.phases.ErrorCode.TheVariants.{InvalidRequest, ParseError}
-use Rattle.ftl_lsp.proofs.SessionLemmas.{session_takes_notification, takes_request}
+use Rattle.ftl_lsp.proofs.SessionLemmas.{session_takes_notification, request_by_method_is_sent_for_message}
 use Rattle.ftl_lsp.proofs.sessions.server.Server.take.Goals as goal
 
 pub returns-in_default : goal.returns-in_default
@@ -20,7 +20,8 @@ returns-in_default g c =
 
 pub returns-in-Request : goal.returns-in-Request
 returns-in-Request g c =
-    takes_request c.request.result (session_of c.args.self.now) (session_of c.read_files.new.self)
+    request_by_method_is_sent_for_message c.request.result (session_of c.args.self.now)
+    (session_of c.read_files.new.self)
     (session_of c.request.new.self) c.args.body.now
     (view c.in-Ok.value) (view c.in-Request.id.now) (view c.in_ok-id-in-Request.id) c.in-Request.method.now
     c.from_name-method.result c.in-Ok.ensures.ok.1 (sym c.in-Request.ensures) c.in_ok-id-in-Request.ensures.cases
