@@ -11,7 +11,7 @@ from texts import TOP, all_texts
 SEVERITIES = {
     "defined-twice": "error", "attribute-twice": "error", "undefined-message": "error", "undefined-term": "error",
     "undefined-attribute": "error", "undefined-value": "error", "cyclic-reference": "error",
-    "variant-twice": "warning",
+    "variant-twice": "warning", "plural-category": "warning",
     "missing": "error", "missing-value": "error",
     "missing-attribute": "error", "missing-reference": "warning", "obsolete": "warning", "obsolete-value": "warning",
     "obsolete-attribute": "warning", "unknown-variable": "error", "obsolete-reference": "warning",
@@ -87,6 +87,8 @@ class Findings(unittest.TestCase):
         examples = of_the_page()
         self.assertGreater(len(examples), 10)
         for kind, texts in examples:
+            if kind == "plural-category":  # wants the folder of a language
+                continue
             if "one" in texts:
                 findings = dovelectern.lint(texts["one"])
             else:
@@ -203,9 +205,9 @@ class Findings(unittest.TestCase):
                 call()
 
     def test_kinds(self) -> None:
-        names = [_library.finding_kind_name(number) for number in [*range(1, 9), *range(101, 111)]]
+        names = [_library.finding_kind_name(number) for number in [*range(1, 10), *range(101, 111)]]
         self.assertEqual(names, list(SEVERITIES))
-        for number in (0, 9, 100, 111, 2**32 - 1):
+        for number in (0, 10, 100, 111, 2**32 - 1):
             with self.assertRaises(ValueError):
                 _library.finding_kind_name(number)
 

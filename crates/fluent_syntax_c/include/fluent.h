@@ -152,6 +152,7 @@ enum ftl_finding_kind {
     FTL_FINDING_UNDEFINED_VALUE = 6,
     FTL_FINDING_CYCLIC_REFERENCE = 7, /* since 2.2 */
     FTL_FINDING_VARIANT_TWICE = 8,    /* since 2.4 */
+    FTL_FINDING_PLURAL_CATEGORY = 9,  /* since 2.4; by the program alone, which knows languages by their folders */
     FTL_FINDING_MISSING = 101, /* between a reference and another text, by ftl_comparison: the reference has it, */
     FTL_FINDING_MISSING_VALUE = 102,
     FTL_FINDING_MISSING_ATTRIBUTE = 103,

@@ -22,6 +22,7 @@ within_number kind.UndefinedAttribute = 5
 within_number kind.UndefinedValue = 6
 within_number kind.CyclicReference = 7
 within_number kind.VariantTwice = 8
+within_number kind.PluralCategory = 9
 
 abbrev pub between_number : Difference → ℕ
 between_number differs.Missing = 101

@@ -76,6 +76,7 @@ fn within_number(kind: Kind) -> u32
         Kind::UndefinedValue => 6,
         Kind::CyclicReference => 7,
         Kind::VariantTwice => 8,
+        Kind::PluralCategory => 9,
     }
 }
 
@@ -103,6 +104,7 @@ pub(crate) fn finding_kind_at(number: u32) -> Option<FindingKind>
         6 => Some(FindingKind::Within(Kind::UndefinedValue)),
         7 => Some(FindingKind::Within(Kind::CyclicReference)),
         8 => Some(FindingKind::Within(Kind::VariantTwice)),
+        9 => Some(FindingKind::Within(Kind::PluralCategory)),
         101 => Some(FindingKind::Between(Difference::Missing)),
         102 => Some(FindingKind::Between(Difference::MissingValue)),
         103 => Some(FindingKind::Between(Difference::MissingAttribute)),

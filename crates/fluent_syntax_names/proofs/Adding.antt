@@ -1,7 +1,7 @@
 -- Lists that grow by one node after another.
 use Rattle.std.proofs.Common.{◌≡◌, ℕ, ◌+◌, ◌<◌, ◌≤◌, List, [], ◌∷◌, ◌++◌, length, get_or, drop, sym, ap, ◌∙◌}
 use Rattle.std.proofs.Common.{Result, Ok, Err}
-use Rattle.std.specs.Prelude.{OnOk}
+use Rattle.std.specs.Prelude.{OnOk, if◌then◌else◌, is_ok}
 use Rattle.std.proofs.lemmas.List.{append_assoc, drop_more, drop_all}
 use Rattle.fluent_syntax_names.specs.Growing.{Adds, Leaves}
 
@@ -13,6 +13,13 @@ drop_one_node nodes i x d within is = drop_more nodes i d within ∙ ap (λ y. y
 module _ {X : Type 0} where
   pub pushed_item_is_added : (old new : List X) (x : X) → new ≡ old ++ x ∷ [] → Adds old new (λ tail. x ∷ tail)
   pushed_item_is_added old new x e = λ rest. ap (λ l. l ++ rest) e ∙ append_assoc old (x ∷ []) rest
+
+  -- a list that was appended where there was memory for it
+  pub appended_list_is_added : {A E : Type 0} (r : Result A E) (old new found more : List X)
+      → new ≡ (if is_ok r then old ++ found else old) → found ≡ more → OnOk r (Adds old new (λ tail. more ++ tail))
+  appended_list_is_added (Ok x) old new found more is same =
+      λ rest. ap (λ l. l ++ rest) (is ∙ ap (λ l. old ++ l) same) ∙ append_assoc old more rest
+  appended_list_is_added (Err e) old new found more is same = tt
 
   pub adding_twice_adds_both : (a b c : List X) (f g : List X → List X) → Adds a b f → Adds b c g
       → Adds a c (λ tail. f (g tail))

@@ -5,6 +5,7 @@ use Rattle.std.specs.Prelude.{if◌then◌else◌}
 use Rattle.std.proofs.lemmas.List.{drop_all}
 use Rattle.fluent_syntax_tree.specs.declared.spans.Span.{Span}
 use Rattle.fluent_syntax_names.specs.Mentions.{Mentions}
+use Rattle.fluent_syntax_names.specs.PluralCategories.{Words}
 use Rattle.fluent_syntax_names.specs.declared.mention.Mention.{Mention}
 use Rattle.fluent_syntax_names.specs.declared.mention.Mention.TheVariants as says
 use Rattle.fluent_syntax_names.specs.declared.name_index.NameIndex.{NameIndex}
@@ -15,7 +16,7 @@ use Rattle.fluent_syntax_names.specs.declared.finding.Finding.{Finding}
 use Rattle.fluent_syntax_names.specs.declared.finding.Kind.{Kind}
 use Rattle.fluent_syntax_names.specs.declared.finding.Kind.TheVariants as kind
 use Rattle.fluent_syntax_names.specs.Findings.{Known, put, finding_of, findings_in, findings_from, after, nothing}
-use Rattle.fluent_syntax_names.specs.Findings.{twice, Set}
+use Rattle.fluent_syntax_names.specs.Findings.{twice, Set, unchosen_findings}
 use Rattle.fluent_syntax_names.specs.Findings.{cycle, cycle_to, undefined_entry, undefined_reference, finding_at}
 use Rattle.fluent_syntax_names.specs.QualifiedNames.{Text, message_name, term_name, qualified_name, qualified_attribute}
 use Rattle.fluent_syntax_names.specs.QualifiedNames.{qualified_value}
@@ -125,13 +126,16 @@ module _ (A B : Set) (defines : (name : Text) → A.defines name ≡ B.defines n
       ∙ ap (λ o. put (finding_of B.defines file text known m) (put o left)) here.0
       ∙ ap (λ l. put (finding_of B.defines file text known m) (put (cycle B.is_cyclic file text pattern m) l)) beyond
 
-  pub findings_from_files_depend_on_cycles : (n : ℕ) (files : List NameIndex) → SameOn A B (links files)
-      → (tail : List Finding) → findings_from A n files tail ≡ findings_from B n files tail
-  findings_from_files_depend_on_cycles n [] same tail = refl
-  findings_from_files_depend_on_cycles n (file ∷ files) same tail =
+  pub findings_from_files_depend_on_cycles : (words : Option Words) (n : ℕ) (files : List NameIndex)
+      → SameOn A B (links files) → (tail : List Finding)
+      → findings_from A words n files tail ≡ findings_from B words n files tail
+  findings_from_files_depend_on_cycles words n [] same tail = refl
+  findings_from_files_depend_on_cycles words n (file ∷ files) same tail =
       findings_in_file_depend_on_cycles n file.text.now nothing no_pattern file.mentions.items (links files) same
-      (findings_from A (n + 1) files tail) (findings_from B (n + 1) files tail)
-      (λ later. findings_from_files_depend_on_cycles (n + 1) files later tail)
+      (unchosen_findings words n file (findings_from A words (n + 1) files tail))
+      (unchosen_findings words n file (findings_from B words (n + 1) files tail))
+      (λ later. ap (unchosen_findings words n file)
+      (findings_from_files_depend_on_cycles words (n + 1) files later tail))
 
 -- ---- The mentions of a file
 
@@ -162,20 +166,23 @@ module _ (A : Set) (file : ℕ) (text : Text) (old now : List Finding) (all : Li
 
 -- ---- The files
 
-module _ (A : Set) (files : List NameIndex) (now next : List Finding) (i : ℕ) where
+module _ (A : Set) (words : Option Words) (files : List NameIndex) (now between next : List Finding) (i : ℕ) where
   pub findings_are_left_after_next_file : (file : NameIndex) → i < length files → file ≡ get_or files i file
-      → Leaves [] now (findings_from A i (drop i files)) (findings_from A 0 files)
-      → Adds now next (findings_in A i file.text.now nothing no_pattern file.mentions.items)
-      → Leaves [] next (findings_from A (i + 1) (drop (i + 1) files)) (findings_from A 0 files)
-  findings_are_left_after_next_file file within is =
-      rest_is_left_after_one [] now next (findings_from A i (drop i files))
-      (findings_in A i file.text.now nothing no_pattern file.mentions.items)
-      (findings_from A (i + 1) (drop (i + 1) files))
-      (findings_from A 0 files) (λ tail. ap (λ l. findings_from A i l tail) (drop_one_node files i file file within is))
+      → Leaves [] now (findings_from A words i (drop i files)) (findings_from A words 0 files)
+      → Adds now between (findings_in A i file.text.now nothing no_pattern file.mentions.items)
+      → Adds between next (unchosen_findings words i file)
+      → Leaves [] next (findings_from A words (i + 1) (drop (i + 1) files)) (findings_from A words 0 files)
+  findings_are_left_after_next_file file within is left adds adds_too =
+      let found = findings_in A i file.text.now nothing no_pattern file.mentions.items in
+      rest_is_left_after_one [] now next (findings_from A words i (drop i files))
+      (λ tail. found (unchosen_findings words i file tail)) (findings_from A words (i + 1) (drop (i + 1) files))
+      (findings_from A words 0 files)
+      (λ tail. ap (λ l. findings_from A words i l tail) (drop_one_node files i file file within is))
+      left (adding_twice_adds_both now between next found (unchosen_findings words i file) adds adds_too)
 
   pub findings_after_last_file_are_all : length files ≤ i
-      → Leaves [] now (findings_from A i (drop i files)) (findings_from A 0 files)
-      → Adds [] now (findings_from A 0 files)
+      → Leaves [] now (findings_from A words i (drop i files)) (findings_from A words 0 files)
+      → Adds [] now (findings_from A words 0 files)
   findings_after_last_file_are_all end =
-      nothing_left_means_all_added [] now (findings_from A i (drop i files)) (findings_from A 0 files)
-      (λ tail. ap (λ l. findings_from A i l tail) (drop_all i files end))
+      nothing_left_means_all_added [] now (findings_from A words i (drop i files)) (findings_from A words 0 files)
+      (λ tail. ap (λ l. findings_from A words i l tail) (drop_all i files end))

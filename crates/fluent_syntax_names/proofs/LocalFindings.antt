@@ -4,6 +4,7 @@ use Rattle.std.proofs.Common.{Option, Some, None}
 use Rattle.std.specs.Prelude.{filter, cond, if◌then◌else◌}
 use Rattle.fluent_syntax_tree.specs.declared.spans.Span.{Span}
 use Rattle.fluent_syntax_names.specs.Mentions.{Mentions}
+use Rattle.fluent_syntax_names.specs.PluralCategories.{Words}
 use Rattle.fluent_syntax_names.specs.declared.mention.Mention.{Mention}
 use Rattle.fluent_syntax_names.specs.declared.mention.Mention.TheVariants as says
 use Rattle.fluent_syntax_names.specs.declared.name_index.NameIndex.{NameIndex}
@@ -14,7 +15,7 @@ use Rattle.fluent_syntax_names.specs.declared.finding.Kind.{Kind}
 use Rattle.fluent_syntax_names.specs.declared.finding.Kind.TheVariants as kind
 use Rattle.fluent_syntax_names.specs.Cycles.{Link, links_in, links, pattern_after, referenced_pattern, no_pattern}
 use Rattle.fluent_syntax_names.specs.Findings.{Known, Set, put, finding_of, findings_in, findings_from, after, nothing}
-use Rattle.fluent_syntax_names.specs.Findings.{twice}
+use Rattle.fluent_syntax_names.specs.Findings.{twice, unchosen_findings}
 use Rattle.fluent_syntax_names.specs.Findings.{cycle, undefined_entry, undefined_reference, finding_at}
 use Rattle.fluent_syntax_names.specs.Severities.{is_local}
 use Rattle.fluent_syntax_names.specs.QualifiedNames.{Text, message_name, term_name, qualified_name, qualified_attribute}
@@ -95,7 +96,8 @@ module _ (A B : Set) where
       (putting_finding_keeps_own comes (left A) (left B) beyond)
       ∙ ap (λ o. own (put (finding_of B.defines file text known m) (put o (left B)))) here.0
 
-  pub own_findings_depend_on_own_links : (file : NameIndex) → SameOn A B (links (file ∷ []))
-      → own (findings_from A 0 (file ∷ []) []) ≡ own (findings_from B 0 (file ∷ []) [])
-  own_findings_depend_on_own_links file same =
-      own_findings_in_file_ignore_definitions 0 file.text.now nothing no_pattern file.mentions.items [] same []
+  pub own_findings_depend_on_own_links : (words : Option Words) (file : NameIndex) → SameOn A B (links (file ∷ []))
+      → own (findings_from A words 0 (file ∷ []) []) ≡ own (findings_from B words 0 (file ∷ []) [])
+  own_findings_depend_on_own_links words file same =
+      own_findings_in_file_ignore_definitions 0 file.text.now nothing no_pattern file.mentions.items [] same
+      (unchosen_findings words 0 file [])

@@ -1,5 +1,6 @@
 -- What is found in a set of files of one language.
-use Rattle.std.specs.Prelude.{ℕ, ◌+◌, Bool, true, false, ◌||◌, List, [], ◌∷◌, Option, Some, None, filter, if◌then◌else◌}
+use Rattle.std.specs.Prelude.{ℕ, ◌+◌, Bool, true, false, ◌||◌, List, [], ◌∷◌, ◌++◌, Option, Some, None, filter, map}
+use Rattle.std.specs.Prelude.{if◌then◌else◌}
 use Rattle.std.specs.List.{list_any}
 use Rattle.std.specs.Str.{bytes_eq}
 use Rattle.fluent_syntax_tree.specs.declared.spans.Span.{Span}
@@ -13,6 +14,7 @@ use Rattle.fluent_syntax_names.specs.declared.name_index.NameIndex.{NameIndex}
 use Rattle.fluent_syntax_names.specs.declared.qualified_names.EntryName.{EntryName}
 use Rattle.fluent_syntax_names.specs.declared.qualified_names.PatternName.{PatternName}
 use Rattle.fluent_syntax_names.specs.Mentions.{Mentions}
+use Rattle.fluent_syntax_names.specs.PluralCategories.{Words, unchosen_keys}
 use Rattle.fluent_syntax_names.specs.FirstPlaces.{first_of, place_where}
 use Rattle.fluent_syntax_names.specs.Severities.{is_local}
 use Rattle.fluent_syntax_names.specs.QualifiedNames.{Text, message_name, term_name, nameless, name_at, qualified_name}
@@ -163,17 +165,24 @@ findings_in all file text known pattern (m ∷ ms) tail =
     (put (cycle all.is_cyclic file text pattern m)
     (findings_in all file text (after text known m) (pattern_after pattern m) ms tail))
 
-abbrev pub findings_from : Set → ℕ → List NameIndex → List Finding → List Finding
-findings_from all number [] tail = tail
-findings_from all number (file ∷ files) tail =
+-- each key that a language with these plural categories never chooses
+abbrev pub unchosen_findings : Option Words → ℕ → NameIndex → List Finding → List Finding
+unchosen_findings None number file tail = tail
+unchosen_findings (Some categories) number file tail =
+    map (λ key. finding_at kind.PluralCategory number key None) (unchosen_keys file categories) ++ tail
+
+-- in each file what is found at its mentions, and then the keys that its language never chooses
+abbrev pub findings_from : Set → Option Words → ℕ → List NameIndex → List Finding → List Finding
+findings_from all categories number [] tail = tail
+findings_from all categories number (file ∷ files) tail =
     findings_in all number file.text.now nothing no_pattern file.mentions.items
-    (findings_from all (number + 1) files tail)
+    (unchosen_findings categories number file (findings_from all categories (number + 1) files tail))
 
 abbrev pub set_of : List NameIndex → Set
 set_of files = record { defines = is_defined files; is_cyclic = is_cyclic (links files) }
 
 abbrev pub all_findings : List NameIndex → List Finding
-all_findings files = findings_from (set_of files) 0 files []
+all_findings files = findings_from (set_of files) None 0 files []
 
 -- what is known of files among others, of which it is known whether they define a name
 abbrev pub set_with_externals : List NameIndex → (Text → Bool) → Set
@@ -182,10 +191,19 @@ set_with_externals files others = record {
   is_cyclic = is_cyclic (links files);
 }
 
--- what is found in the files, where others may define what they refer to
-abbrev pub findings_with_externals : List NameIndex → (Text → Bool) → List Finding
-findings_with_externals files others = findings_from (set_with_externals files others) 0 files []
+-- what is found in the files of a language, where others may define what they refer to
+abbrev pub findings_in_language : Option Words → List NameIndex → (Text → Bool) → List Finding
+findings_in_language categories files others = findings_from (set_with_externals files others) categories 0 files []
 
--- what is found in a file by itself that is found whatever there is in other files
+-- the same where its plural categories are not known
+abbrev pub findings_with_externals : List NameIndex → (Text → Bool) → List Finding
+findings_with_externals = findings_in_language None
+
+-- what is found in a file of a language by itself that is found whatever there is in other files
+abbrev pub local_findings_in_language : Option Words → NameIndex → List Finding
+local_findings_in_language categories file =
+    filter (λ f. is_local f.kind) (findings_from (set_of (file ∷ [])) categories 0 (file ∷ []) [])
+
+-- the same where its plural categories are not known
 abbrev pub local_findings : NameIndex → List Finding
-local_findings file = filter (λ f. is_local f.kind) (all_findings (file ∷ []))
+local_findings = local_findings_in_language None

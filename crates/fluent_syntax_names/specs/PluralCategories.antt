@@ -1,10 +1,11 @@
 -- Keys of selects by plural categories that a language never chooses.
 use Rattle.std.specs.Prelude.{ℕ, ◌+◌, ◌^◌, ◌-◌, ◌≡◌, ◌≢◌, min, unwrap_or, Bool, false, not, ◌&&◌, ◌||◌, ◌==◌, List}
-use Rattle.std.specs.Prelude.{Option, Some, None, if◌then◌else◌, codes, count_by, find, nat_lt, option_map, slice_get}
+use Rattle.std.specs.Prelude.{nat_eq, true, length, Option, Some, None, if◌then◌else◌, codes, count_by, find, nat_lt}
+use Rattle.std.specs.Prelude.{option_map, slice_get}
 use Rattle.std.specs.Borrow.{Bor}
 use Rattle.std.specs.BTreeMap.{BTreeMap, get}
 use Rattle.std.specs.Char.{is_ascii_digit}
-use Rattle.std.specs.List.{list_any, filter_map}
+use Rattle.std.specs.List.{list_any, filter_map, starts_with}
 use Rattle.std.specs.Ordering.{nat_cmp}
 use Rattle.std.specs.Str.{bytes_eq}
 use Rattle.fluent_syntax_tree.specs.Bytes.{hyphen}
@@ -23,14 +24,31 @@ use Rattle.fluent_syntax_names.specs.declared.select_counts.KeyKind.TheVariants.
 abbrev pub Words : Type 0
 Words = List (Bor Text)
 
+-- the words that are borrowed, if some are
+abbrev pub words_of : Option (Bor Words) → Option Words
+words_of = option_map (λ (words : Bor Words). words.now)
+
 abbrev pub is_among : Words → Text → Bool
 is_among words name = list_any (λ (word : Bor Text). bytes_eq word.now name) words
 
--- the categories of the first group that has the language
-abbrev pub categories_in : List LanguageGroup → (language : Text) → Option Words
-categories_in groups language =
+abbrev pub ends_code : Option ℕ → Bool
+ends_code None = true
+ends_code (Some b) = b == hyphen || b == 95
+
+-- whether the name is that of the language with the code: the code alone, or before its script or its region, as `pt`
+-- of `pt-BR` and `pt_BR`
+abbrev pub has_code : (name code : Text) → Bool
+has_code name code = starts_with nat_eq name code && ends_code (slice_get name (length code))
+
+-- whether the language of the name is in the group
+abbrev pub has_language : (name : Text) → LanguageGroup → Bool
+has_language name group = list_any (λ (code : Bor Text). has_code name code.now) group.languages.now
+
+-- the categories of the first group that has the language of the name
+abbrev pub categories_in : List LanguageGroup → (name : Text) → Option Words
+categories_in groups name =
     option_map (λ (group : LanguageGroup). group.categories.now)
-    (find (λ (group : LanguageGroup). is_among group.languages.now language) groups)
+    (find (has_language name) groups)
 
 -- ---- What keys are
 

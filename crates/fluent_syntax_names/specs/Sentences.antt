@@ -21,6 +21,7 @@ sentence_of kind.UndefinedTerm name = codes "no file defines the term `" ++ name
 sentence_of kind.UndefinedAttribute name = codes "no file defines the attribute `" ++ name ++ codes "`"
 sentence_of kind.UndefinedValue name = codes "no file gives the message `" ++ name ++ codes "` a value"
 sentence_of kind.CyclicReference name = codes "`" ++ name ++ codes "` leads back to this reference"
+sentence_of kind.PluralCategory name = codes "no number chooses the variant `" ++ name ++ codes "` in this language"
 
 -- and of the line where the name was given first
 abbrev pub first_on_line : Option ℕ → List ℕ

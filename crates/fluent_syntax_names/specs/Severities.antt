@@ -14,6 +14,7 @@ severity_of kind.UndefinedTerm = Error
 severity_of kind.UndefinedAttribute = Error
 severity_of kind.UndefinedValue = Error
 severity_of kind.CyclicReference = Error
+severity_of kind.PluralCategory = Warning
 
 -- as a command line has it
 abbrev pub name_of : Kind → List ℕ
@@ -25,6 +26,7 @@ name_of kind.UndefinedTerm = codes "undefined-term"
 name_of kind.UndefinedAttribute = codes "undefined-attribute"
 name_of kind.UndefinedValue = codes "undefined-value"
 name_of kind.CyclicReference = codes "cyclic-reference"
+name_of kind.PluralCategory = codes "plural-category"
 
 -- whether one in a file is one whatever there is in other files
 abbrev pub is_local : Kind → Bool
@@ -36,3 +38,4 @@ is_local kind.UndefinedTerm = false
 is_local kind.UndefinedAttribute = false
 is_local kind.UndefinedValue = false
 is_local kind.CyclicReference = true
+is_local kind.PluralCategory = true

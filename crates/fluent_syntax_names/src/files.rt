@@ -1,10 +1,14 @@
 //! All that is found in a set of files.
-ghost use Rattle.std.specs.Prelude.{◌≡◌, ◌↔◌, ℕ, List, [], None, OnOk, IfOk, IsTrue};
+ghost use Rattle.std.specs.Prelude.{◌≡◌, ◌↔◌, ℕ, List, [], None, OnOk, IfOk, IsTrue, map};
 ghost use Rattle.fluent_syntax_names.specs.Cycles.{Reaches, links, no_pattern, reaches};
 ghost use Rattle.fluent_syntax_names.specs.ReferenceGraphs.{set_by};
 ghost use Rattle.fluent_syntax_names.specs.Findings.{nothing, findings_in, findings_from, all_findings, put};
-ghost use Rattle.fluent_syntax_names.specs.Findings.{findings_with_externals, is_defined, local_findings};
+ghost use Rattle.fluent_syntax_names.specs.Findings.{findings_in_language, findings_with_externals, is_defined};
+ghost use Rattle.fluent_syntax_names.specs.Findings.{finding_at, local_findings, local_findings_in_language};
+ghost use Rattle.fluent_syntax_names.specs.Findings.{unchosen_findings};
+ghost use Rattle.fluent_syntax_names.specs.declared.finding.Kind.TheVariants.{PluralCategory};
 ghost use Rattle.fluent_syntax_names.specs.Knowing.{knows, others_define};
+ghost use Rattle.fluent_syntax_names.specs.PluralCategories.{words_of};
 ghost use Rattle.fluent_syntax_names.specs.FirstPlaces.{place_of};
 ghost use Rattle.fluent_syntax_names.specs.Growing.{Adds};
 ghost use Rattle.fluent_syntax_names.specs.Tables.{has_name};
@@ -13,13 +17,14 @@ use crate::cycles::{Cycles, cycles_of};
 use crate::defined_names::DefinedNames;
 use crate::defined_so_far::DefinedSoFar;
 use crate::definitions::note_definitions;
-use crate::finding::Finding;
+use crate::finding::{Finding, Kind};
 use crate::first_places::FirstPlaces;
 use crate::known_names::KnownNames;
 use crate::mention::Mention;
 use crate::mention_findings::FileContext;
 use crate::name_index::NameIndex;
 use crate::pattern_references::{NO_PATTERN, pattern_after};
+use crate::selects::unchosen_keys;
 use fluent_syntax_tree::spans::Span;
 use std::alloc::{AllocError, Global};
 use std::slice::from_ref;
@@ -53,11 +58,28 @@ pub fn findings_with_externals(
 ) -> Result<Vec<Finding>, AllocError>
     ensures { IfOk result (λ list. list.items ≡ findings_with_externals files.now (others_define others.now)) }
 {
+    findings_in_language(alloc, files, others, None)
+}
+
+/// The same in files of a language that has these plural categories, if they are known: at the end of each file also
+/// the keys of its selects that the language never chooses (`unchosen_keys`).
+///
+/// Takes the memory of `findings_with_externals`, and of two tables of the selects of a file; `AllocError` where there
+/// is none.
+pub fn findings_in_language<'x>(
+    alloc: Global,
+    files: &[NameIndex<'x>],
+    others: &[&DefinedNames],
+    categories: Option<&'x [&'x str]>,
+) -> Result<Vec<Finding>, AllocError>
+    ensures { IfOk result (λ list. list.items
+        ≡ findings_in_language (words_of categories.entry) files.now (others_define others.now)) }
+{
     let mut own = FirstPlaces::new(alloc);
     note_files(alloc, &mut own, files)?;
     let cycles = cycles_of(alloc, files)?;
     let known = KnownNames { own: &own, others };
-    findings_in_files(alloc, known, &cycles, files)
+    findings_in_files(alloc, known, &cycles, categories, files)
 }
 
 /// What is found in a file by itself, whatever other files have, in the order of its text: a name, an attribute or
@@ -67,6 +89,21 @@ pub fn findings_with_externals(
 pub fn local_findings(alloc: Global, file: &NameIndex<'_>) -> Result<Vec<Finding>, AllocError>
     ensures { IfOk result (λ list. list.items ≡ local_findings file.now) }
 {
+    local_findings_in_language(alloc, file, None)
+}
+
+/// The same in a file of a language that has these plural categories, if they are known: at its end also the keys of
+/// its selects that the language never chooses.
+///
+/// Takes the memory of `local_findings`, and of two tables of its selects; `AllocError` where there is none.
+pub fn local_findings_in_language<'x>(
+    alloc: Global,
+    file: &NameIndex<'x>,
+    categories: Option<&'x [&'x str]>,
+) -> Result<Vec<Finding>, AllocError>
+    ensures { IfOk result (λ list. list.items
+        ≡ local_findings_in_language (words_of categories.entry) file.now) }
+{
     let files = from_ref(file);
     let cycles = cycles_of(alloc, files)?;
     // Where no name is known, each reference is found missing, and each of these findings has others with it.
@@ -75,7 +112,7 @@ pub fn local_findings(alloc: Global, file: &NameIndex<'_>) -> Result<Vec<Finding
         own: &unknown,
         others: &[],
     };
-    let all = findings_in_files(alloc, known, &cycles, files)?;
+    let all = findings_in_files(alloc, known, &cycles, categories, files)?;
     all.iter()
         .copied()
         .filter(|finding| finding.kind.is_local())
@@ -97,15 +134,17 @@ fn note_files(
     Ok(())
 }
 
-/// What is found in each file, where all names that they define and all references that come back are known.
-fn findings_in_files(
+/// What is found in each file, where all names that they define and all references that come back are known, and
+/// perhaps the plural categories of their language.
+fn findings_in_files<'x>(
     alloc: Global,
     known: KnownNames<'_>,
     cycles: &Cycles,
-    files: &[NameIndex<'_>],
+    categories: Option<&'x [&'x str]>,
+    files: &[NameIndex<'x>],
 ) -> Result<Vec<Finding>, AllocError>
-    ensures { IfOk result (λ list.
-        list.items ≡ findings_from (set_by (knows known.entry) cycles.now) 0 files.now []) }
+    ensures { IfOk result (λ list. list.items ≡ findings_from (set_by (knows known.entry) cycles.now)
+        (words_of categories.entry) 0 files.now []) }
 {
     let mut list = Vec::new(alloc);
     for (number, file) in files.iter().enumerate() {
@@ -117,6 +156,7 @@ fn findings_in_files(
             text: file.text,
         };
         add_findings(&here, &file.mentions, &mut list)?;
+        add_unchosen_keys(alloc, number, file, categories, &mut list)?;
     }
     Ok(list)
 }
@@ -141,6 +181,44 @@ fn add_findings(
         pattern = pattern_after(pattern, mention);
     }
     Ok(())
+}
+
+/// Adds the keys in the file of the number that a language with these plural categories never chooses.
+fn add_unchosen_keys<'x>(
+    alloc: Global,
+    number: usize,
+    file: &NameIndex<'x>,
+    categories: Option<&'x [&'x str]>,
+    list: &mut Vec<Finding>,
+) -> Result<(), AllocError>
+    ensures { OnOk result (Adds list.old.items list.new.items
+        (unchosen_findings (words_of categories.entry) number file.now)) }
+{
+    let Some(categories) = categories else {
+        return Ok(());
+    };
+    let keys = unchosen_keys(alloc, file, categories)?;
+    let mut found = unchosen_findings(alloc, number, &keys)?;
+    list.append(&mut found)
+}
+
+/// A finding at each of the keys, in the file of the number.
+fn unchosen_findings(
+    alloc: Global,
+    number: usize,
+    keys: &[Span],
+) -> Result<Vec<Finding>, AllocError>
+    ensures { IfOk result (λ found.
+        found.items ≡ map (λ key. finding_at PluralCategory number key None) keys.now) }
+{
+    keys.iter()
+        .map(|key| Finding {
+            kind: Kind::PluralCategory,
+            file: number,
+            place: Some(*key),
+            other: None,
+        })
+        .collect(alloc)
 }
 
 fn add_finding(list: &mut Vec<Finding>, finding: Option<Finding>) -> Result<(), AllocError>

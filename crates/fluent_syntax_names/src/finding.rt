@@ -43,6 +43,8 @@ pub enum Kind {
     UndefinedValue,
     /// What is referred to reaches the pattern that refers to it.
     CyclicReference,
+    /// The language never chooses the variant with this key, by its plural categories.
+    PluralCategory,
 }
 
 /// How grave a finding is.
@@ -64,7 +66,7 @@ impl Kind {
             Kind::UndefinedMessage | Kind::UndefinedTerm => Severity::Error,
             Kind::UndefinedAttribute | Kind::UndefinedValue => Severity::Error,
             Kind::CyclicReference => Severity::Error,
-            Kind::VariantTwice => Severity::Warning,
+            Kind::VariantTwice | Kind::PluralCategory => Severity::Warning,
         }
     }
 
@@ -81,6 +83,7 @@ impl Kind {
             Kind::UndefinedAttribute => "undefined-attribute",
             Kind::UndefinedValue => "undefined-value",
             Kind::CyclicReference => "cyclic-reference",
+            Kind::PluralCategory => "plural-category",
         }
     }
 
@@ -91,7 +94,7 @@ impl Kind {
     {
         match self {
             Kind::DefinedTwice | Kind::AttributeTwice | Kind::VariantTwice => true,
-            Kind::CyclicReference => true,
+            Kind::CyclicReference | Kind::PluralCategory => true,
             Kind::UndefinedMessage | Kind::UndefinedTerm => false,
             Kind::UndefinedAttribute | Kind::UndefinedValue => false,
         }

@@ -39,7 +39,10 @@ pub use defined_names::DefinedNames;
 pub use differences::{Difference, Side};
 pub use entries::{defined, mentions, references, variables};
 pub use entry_places::entry_count;
-pub use files::{findings, findings_with_externals, local_findings};
+pub use files::{
+    findings, findings_in_language, findings_with_externals, local_findings,
+    local_findings_in_language,
+};
 pub use finding::{Finding, Kind, Place, Severity};
 pub use graph::components;
 pub use mention::Mention;

@@ -43,6 +43,9 @@ impl Kind {
             Kind::UndefinedAttribute => format!(in alloc; "no file defines the attribute `{name}`"),
             Kind::UndefinedValue => format!(in alloc; "no file gives the message `{name}` a value"),
             Kind::CyclicReference => format!(in alloc; "`{name}` leads back to this reference"),
+            Kind::PluralCategory => format!(in alloc;
+                "no number chooses the variant `{name}` in this language"
+            ),
         }
     }
 }

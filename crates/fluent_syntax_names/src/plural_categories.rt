@@ -1,7 +1,8 @@
 //! Which plural categories languages have: those of cardinal numbers in `common/supplemental/plurals.xml` of version 41
 //! of the Unicode Common Locale Data Repository, © 1991-2022 Unicode, Inc.
 ghost use Rattle.std.specs.Prelude.{◌≡◌, option_map};
-ghost use Rattle.fluent_syntax_names.specs.PluralCategories.{categories_in, is_among};
+ghost use Rattle.fluent_syntax_names.specs.PluralCategories.{categories_in, ends_code, has_code, has_language};
+ghost use Rattle.fluent_syntax_names.specs.PluralCategories.{is_among};
 
 /// Languages, by their codes, that have the same plural categories.
 pub struct LanguageGroup {
@@ -9,19 +10,41 @@ pub struct LanguageGroup {
     pub languages: &'static [&'static str],
 }
 
-/// The plural categories of the first group that has the language: those among which it chooses for a number, such as
-/// `one`, `few`, `many` and `other` for `pl`. `None` where no group has it. A language is its code alone, without a
-/// region.
-pub fn plural_categories_of(
-    groups: &[LanguageGroup],
-    language: &str,
-) -> Option<&'static [&'static str]>
-    ensures { option_map (λ categories. categories.now) result ≡ categories_in groups.now language.now }
+/// The plural categories of the first group that has the language of the name: those among which it chooses for a
+/// number, such as `one`, `few`, `many` and `other` for `pl`. The name is the code of the language, alone or before its
+/// script or its region, as `pt` of `pt-BR` and `pt_BR`. `None` where no group has it.
+pub fn plural_categories_of(groups: &[LanguageGroup], name: &str) -> Option<&'static [&'static str]>
+    ensures { option_map (λ categories. categories.now) result ≡ categories_in groups.now name.now }
 {
     let group = groups
         .iter()
-        .find(|group| is_among(group.languages, language.as_bytes()))?;
+        .find(|group| has_language(group, name.as_bytes()))?;
     Some(group.categories)
+}
+
+/// Whether the language of the name is in the group.
+fn has_language(group: &LanguageGroup, name: &[u8]) -> bool
+    ensures { result ≡ has_language name.now group.now }
+{
+    group.languages.iter().any(|code| has_code(name, *code))
+}
+
+/// Whether the name is that of the language with the code.
+fn has_code(name: &[u8], code: &str) -> bool
+    ensures { result ≡ has_code name.now code.now }
+{
+    let code = code.as_bytes();
+    name.starts_with(code) && ends_code(name.get(code.len()))
+}
+
+/// Whether a code ends before the byte.
+fn ends_code(next: Option<&u8>) -> bool
+    ensures { result ≡ ends_code (option_map (λ byte. byte.now) next.entry) }
+{
+    match next {
+        Some(byte) => *byte == b'-' || *byte == b'_',
+        None => true,
+    }
 }
 
 /// Whether the name is one of the words.

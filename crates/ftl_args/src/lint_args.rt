@@ -51,7 +51,7 @@ Where ftl.toml has the line reference = \"locales/en\", each folder in locales i
 const IGNORE_HELP: &str =
     "A kind that is not reported, or KIND:NAME for what has that name, where a * means any characters; \
     may be given again; kinds: defined-twice, attribute-twice, variant-twice, undefined-message, \
-    undefined-term, undefined-attribute, undefined-value, cyclic-reference";
+    undefined-term, undefined-attribute, undefined-value, cyclic-reference, plural-category";
 
 /// The option for what is not reported.
 pub(crate) fn ignore<'a>(alloc: Global, help: &'a str) -> Arg<'a> {

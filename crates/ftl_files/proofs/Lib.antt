@@ -1,4 +1,6 @@
 pub mod Changed
+pub mod CommentLines
+pub mod CommentedEntries
 pub mod KindLists
 pub mod LanguageLemmas
 pub mod ListedNames

@@ -1,3 +1,4 @@
+pub mod CommentRules
 pub mod Files
 pub mod IgnoreRules
 pub mod Kinds

@@ -10,7 +10,7 @@ ghost use Rattle.ftl_files.specs.declared.kinds.ReportedKind.{ReportedKind};
 use fluent_syntax_names::{Difference, Kind, Severity};
 
 /// The names of what `lint` reports.
-pub const FINDING_NAMES: [&str; 8] = [
+pub const FINDING_NAMES: [&str; 9] = [
     "defined-twice",
     "attribute-twice",
     "variant-twice",
@@ -19,6 +19,7 @@ pub const FINDING_NAMES: [&str; 8] = [
     "undefined-attribute",
     "undefined-value",
     "cyclic-reference",
+    "plural-category",
 ];
 
 /// The names of what `compare` reports.
@@ -109,6 +110,7 @@ pub fn kind_of_name(name: &str) -> Option<Kind>
         "undefined-attribute" => Some(Kind::UndefinedAttribute),
         "undefined-value" => Some(Kind::UndefinedValue),
         "cyclic-reference" => Some(Kind::CyclicReference),
+        "plural-category" => Some(Kind::PluralCategory),
         _ => None,
     }
 }

@@ -3,6 +3,7 @@
 #![tactic(auto)]
 
 mod attributes;
+mod comment_rules;
 mod disk;
 mod excluded;
 mod file_system;
@@ -27,6 +28,7 @@ mod settings_kinds;
 mod store;
 mod uris;
 
+pub use comment_rules::{CommentRules, is_part_left_out};
 pub use disk::Disk;
 pub use excluded::Excluded;
 pub use file_system::FileSystem;

@@ -6,7 +6,14 @@ ghost use Rattle.ftl_files.specs.Patterns.{meeting, meeting_of, name_matches, of
 pub fn name_matches(pattern: &str, name: &str) -> bool
     ensures { result ≡ name_matches pattern.now name.now }
 {
-    match meeting(pattern.as_bytes(), name.as_bytes()) {
+    bytes_match(pattern.as_bytes(), name.as_bytes())
+}
+
+/// The same of bytes.
+pub fn bytes_match(pattern: &[u8], name: &[u8]) -> bool
+    ensures { result ≡ name_matches pattern.now name.now }
+{
+    match meeting(pattern, name) {
         Outcome::Same => true,
         Outcome::Differs => false,
         Outcome::Star(pattern, name) => matches_some_end(pattern, name),

@@ -2,6 +2,7 @@
 
 use crate::listed::listing_at;
 use crate::project::{Project, path_between};
+use fluent_syntax_names::{LANGUAGE_GROUPS, plural_categories_of};
 use ftl::RunFault;
 use ftl_files::{SeenPaths, absolute_path, folder_of_languages, language_of};
 use ftl_project::{Form, LintFile, Tally};
@@ -18,6 +19,12 @@ pub(crate) struct FileSet {
 }
 
 impl FileSet {
+    /// The plural categories of the language, by the name of its folder; `None` where they are not known.
+    pub(crate) fn categories(&self) -> Option<&'static [&'static str]> {
+        let (_, name) = self.language.as_str().rsplit_once('/')?;
+        plural_categories_of(LANGUAGE_GROUPS.as_slice(), name)
+    }
+
     /// Adds the files of the language that are not asked for: what they define counts too.
     pub(crate) fn complete(
         &mut self,

@@ -64,6 +64,7 @@ fn lint_project(
             ignored: &ignored,
             levels: project.levels(),
             set_name: set.folder.as_str(),
+            categories: set.categories(),
         };
         lint_set(rt, set, options.reading(), lint_options, tally)?;
     }

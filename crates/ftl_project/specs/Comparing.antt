@@ -155,11 +155,11 @@ pub record IsFileObsolete (options : CompareOptions) (pair : Pair) (errors warni
 -- what is reported of that which the reference has and the other lacks, and the other way round
 abbrev pub reported_missing : CompareOptions → (reference other : NameIndex) → List MissingPart
 reported_missing options reference other =
-    reported_parts options.ignored.now Reference reference.text.now (all_missing_parts reference other)
+    reported_parts options.ignored.now Reference reference other (all_missing_parts reference other)
 
 abbrev pub reported_extra : CompareOptions → (reference other : NameIndex) → List MissingPart
 reported_extra options reference other =
-    reported_parts options.ignored.now Other other.text.now (all_missing_parts other reference)
+    reported_parts options.ignored.now Other other reference (all_missing_parts other reference)
 
 -- What the reference has and the other lacks is reported, in the order of the reference, and after it what the other
 -- and the reference lacks, in the order of the other. All that is missing counts for the share.

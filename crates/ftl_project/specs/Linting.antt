@@ -1,12 +1,15 @@
 -- How files are searched, and what is counted and reported.
 use Rattle.std.specs.Io.KnownBytes.{Appends}
-use Rattle.std.specs.Prelude.{◌≡◌, ◌≤◌, ◌⊎◌, ◌+◌, ◌-◌, ◌^◌, ◌++◌, ◌&&◌, ℕ, min, Bool, not, List, [], ◌∷◌}
+use Rattle.std.specs.Prelude.{◌≡◌, ◌≤◌, ◌⊎◌, ◌+◌, ◌-◌, ◌^◌, ◌++◌, ◌&&◌, ℕ, min, Bool, not, List, [], ◌∷◌, map}
 use Rattle.std.specs.Prelude.{false, length, nat_eq}
 use Rattle.std.specs.Prelude.{Option, None, Some, IfSome, String, count_by, filter, if◌then◌else◌, option_map}
 use Rattle.std.specs.Prelude.{slice_get, string_bytes}
 use Rattle.std.specs.Global.{Global}
+use Rattle.std.specs.Borrow.{Bor}
 use Rattle.std.specs.Option.{option_eq}
-use Rattle.fluent_syntax_names.specs.Findings.{all_findings}
+use Rattle.fluent_syntax_names.specs.Findings.{findings_in_language}
+use Rattle.fluent_syntax_names.specs.Knowing.{others_define}
+use Rattle.fluent_syntax_names.specs.PluralCategories.{words_of}
 use Rattle.fluent_syntax_names.specs.ShownNames.{shown_name}
 use Rattle.fluent_syntax_names.specs.Severities.{name_of}
 use Rattle.fluent_syntax_names.specs.declared.finding.Finding.{Finding}
@@ -21,9 +24,12 @@ use Rattle.ftl_project.specs.declared.fault.Fault.TheVariants.{TooDeep}
 use Rattle.ftl_project.specs.declared.linting.LintFile.{LintFile}
 use Rattle.ftl_project.specs.declared.linting.LintOptions.{LintOptions}
 use Rattle.ftl_project.specs.declared.linting.findings.Source.{Source}
+use Rattle.ftl_files.specs.CommentRules.{is_left_out}
 use Rattle.ftl_files.specs.IgnoreRules.{is_ignored}
+use Rattle.ftl_files.specs.declared.comment_rules.CommentRules.{CommentRules}
 use Rattle.ftl_files.specs.declared.levels.Levels.{Levels}
 use Rattle.ftl_files.specs.declared.ignore_rules.IgnoreRule.{IgnoreRule}
+use Rattle.ftl_files.specs.declared.kinds.ReportedKind.{ReportedKind}
 use Rattle.ftl_files.specs.declared.kinds.ReportedKind.TheVariants as kinds
 use Rattle.ftl_files.specs.declared.options.Form.{Form}
 use Rattle.ftl_files.specs.declared.options.Reading.{Reading}
@@ -83,16 +89,36 @@ found_name None place = []
 found_name (Some name_index) None = []
 found_name (Some name_index) (Some name) = shown_name name_index.text.now name
 
--- whether no rule leaves it out, and it is in a file that is asked for
+-- whether the comment of the entry there leaves out what is of the kind and has the name
+abbrev pub is_commented : Option NameIndex → Option Span → ReportedKind → (name : List ℕ) → Bool
+is_commented None place kind name = false
+is_commented (Some name_index) place kind name = is_left_out name_index place kind name
+
+-- whether neither a rule nor the comment there leaves out what has the name
+abbrev pub is_named_reported : List IgnoreRule → Option NameIndex → Finding → (name : List ℕ) → Bool
+is_named_reported ignored name_index finding name =
+    not (is_ignored ignored (kinds.Finding finding.kind) name)
+    && not (is_commented name_index finding.place (kinds.Finding finding.kind) name)
+
+-- whether neither leaves it out, and it is in a file that is asked for
 abbrev pub is_reported : List IgnoreRule → List Source → List NameIndex → Finding → Bool
 is_reported ignored sources name_indexes finding =
-    not (is_ignored ignored (kinds.Finding finding.kind)
-    (found_name (slice_get name_indexes finding.file) finding.place)) && is_asked (slice_get sources finding.file)
+    is_named_reported ignored (slice_get name_indexes finding.file) finding
+    (found_name (slice_get name_indexes finding.file) finding.place) && is_asked (slice_get sources finding.file)
 
--- all that is found in what the files say, and is left out by no rule, in those that are asked for
-abbrev pub reported_findings : List IgnoreRule → List Source → List NameIndex → List Finding
-reported_findings ignored sources name_indexes =
-    filter (is_reported ignored sources name_indexes) (all_findings name_indexes)
+-- all that is found in what the files of a language say, and is left out by no rule and no comment, in those that are
+-- asked for
+abbrev pub reported_findings : LintOptions → List Source → List NameIndex → List Finding
+reported_findings options sources name_indexes =
+    filter (is_reported options.ignored.now sources name_indexes)
+    (findings_in_language (words_of options.categories) name_indexes (others_define []))
+
+-- what the files say whose comments these are
+abbrev pub name_indexes_of : List CommentRules → List NameIndex
+name_indexes_of comments = map (λ rules. rules.name_index.now) comments
+
+abbrev pub name_index_of : Option (Bor CommentRules) → Option NameIndex
+name_index_of comments = option_map (λ rules. rules.now.name_index.now) comments
 
 -- ---- what is counted
 
@@ -159,9 +185,9 @@ pub record Searches (reading : Reading) (options : LintOptions) (sources : List 
   pub has_name_indexes : NameIndexesEach reading sources name_indexes old now
   pub report_text : List ℕ
   pub reports : ReportsEach (IsFindingReport options.form sources name_indexes)
-      (reported_findings options.ignored.now sources name_indexes) report_text
+      (reported_findings options sources name_indexes) report_text
   pub counts : new
-      ≡ searched options.levels now (asked_count sources) (reported_findings options.ignored.now sources name_indexes)
+      ≡ searched options.levels now (asked_count sources) (reported_findings options sources name_indexes)
   pub appends : Appends before after report_text
 
 -- The files were read, and the texts of those that could be were searched.

@@ -35,7 +35,7 @@ use crate::streams::{Streams, byte_order_mark_note, report_fault};
 use crate::tally::Tally;
 use fluent_syntax_names::{MissingPart, NameIndex, Part, Side, entry_count, missing_parts};
 use ftl::{RunFault, write_all};
-use ftl_files::{Form, IgnoreRule, Levels, Reading, ReportedKind, Store};
+use ftl_files::{CommentRules, Form, IgnoreRule, Levels, Reading, ReportedKind, Store};
 use std::alloc::{AllocError, Global};
 use std::io::Write;
 
@@ -394,11 +394,14 @@ impl Comparing<'_> {
     {
         let missing = missing_parts(self.alloc, reference, other)?;
         let ignored = self.options.ignored;
+        let rules = CommentRules::of(self.alloc, reference)?;
+        let other_rules = CommentRules::of(self.alloc, other)?;
         let reported = reported_parts(
             self.alloc,
             ignored,
             Side::Reference,
-            reference.text,
+            &rules,
+            &other_rules,
             &missing,
         )?;
         let reporter = PairReporter {
@@ -412,7 +415,14 @@ impl Comparing<'_> {
         };
         let mut report_text = reporter.report_of(&reported)?;
         let extra = missing_parts(self.alloc, other, reference)?;
-        let extra = reported_parts(self.alloc, ignored, Side::Other, other.text, &extra)?;
+        let extra = reported_parts(
+            self.alloc,
+            ignored,
+            Side::Other,
+            &other_rules,
+            &rules,
+            &extra,
+        )?;
         let reporter = PairReporter {
             side: Side::Other,
             text: other.text,

@@ -5,7 +5,8 @@ ghost use Rattle.ftl.specs.Watched.{has_failed, inner_of};
 ghost use Rattle.ftl_files.specs.Store.{AllUnchanged};
 ghost use Rattle.ftl_project.specs.Linting.{IsSource, NameIndexesEach, NameIndexesSource, Reads, ReadsSource, Searches};
 ghost use Rattle.ftl_project.specs.Linting.{SearchesFiles, asked_count, found_name, is_asked, is_error, is_warning};
-ghost use Rattle.ftl_project.specs.Linting.{is_reported, reported_findings, searched, with_problems_after};
+ghost use Rattle.ftl_project.specs.Linting.{is_commented, is_named_reported, is_reported, name_index_of};
+ghost use Rattle.ftl_project.specs.Linting.{name_indexes_of, reported_findings, searched, with_problems_after};
 ghost use Rattle.ftl_project.specs.NameIndexes.{IsShort};
 ghost use Rattle.ftl_project.specs.declared.linting.findings.Source.{Source};
 
@@ -19,9 +20,10 @@ use crate::name_indexes::name_index;
 use crate::reporting::terminal_text::push_shown_text;
 use crate::streams::{Streams, byte_order_mark_note, report_fault};
 use crate::tally::Tally;
-use fluent_syntax_names::{Finding, Kind, NameIndex, findings, shown_name};
+use fluent_syntax::spans::Span;
+use fluent_syntax_names::{Finding, Kind, NameIndex, findings_in_language, shown_name};
 use ftl::{RunFault, write_all};
-use ftl_files::{Form, IgnoreRule, Levels, Reading, ReportedKind, Store, is_ignored};
+use ftl_files::{CommentRules, Form, IgnoreRule, Levels, Reading, ReportedKind, Store, is_ignored};
 use std::alloc::{AllocError, Global};
 use std::fmt::Write as _;
 use std::io::Write;
@@ -44,6 +46,8 @@ pub struct LintOptions<'a> {
     pub levels: Levels<'a>,
     /// What the set is called where its findings are counted; empty where it has no name.
     pub set_name: &'a str,
+    /// The plural categories of the set's language; `None` where they are not known.
+    pub categories: Option<&'a [&'a str]>,
 }
 
 /// Reports what is found in those of the files that are asked for, in their order; then, on the other stream, how many
@@ -152,7 +156,7 @@ fn lint_sources<O: Write, E: Write>(
         ⊎ (has_failed streams.new.err.now ≡ true) }
 {
     let name_indexes = name_indexes(alloc, sources, reading, tally, streams)?;
-    let Ok(found) = reported_findings(alloc, sources, &name_indexes, lint_options.ignored) else {
+    let Ok(found) = reported_findings(alloc, sources, &name_indexes, lint_options) else {
         return Err(RunFault::Memory);
     };
     let levels = lint_options.levels;
@@ -235,40 +239,97 @@ fn source_name_index<'a, O: Write, E: Write>(
 }
 
 /// What is found in the files that are asked for, without what is ignored.
-fn reported_findings(
+fn reported_findings<'x>(
     alloc: Global,
     sources: &[Source],
-    name_indexes: &[NameIndex<'_>],
-    ignored: &[IgnoreRule],
+    name_indexes: &[NameIndex<'x>],
+    options: LintOptions<'x>,
 ) -> Result<Vec<Finding>, AllocError>
-    ensures { IfOk result (λ found. found.items ≡ reported_findings ignored.now sources.now name_indexes.now) }
+    ensures { IfOk result (λ found.
+        found.items ≡ reported_findings options.entry sources.now name_indexes.now) }
 {
-    let all = findings(alloc, name_indexes)?;
+    let all = findings_in_language(alloc, name_indexes, &[], options.categories)?;
+    let comments = comment_rules(alloc, name_indexes)?;
     all.iter()
         .copied()
-        .filter(|finding| is_reported(ignored, sources, name_indexes, finding))
+        .filter(|finding| is_reported(options.ignored, sources, &comments, finding))
         .collect(alloc)
+}
+
+/// What the comments of the files say is not reported.
+fn comment_rules<'a, 't>(
+    alloc: Global,
+    name_indexes: &'a [NameIndex<'t>],
+) -> Result<Vec<CommentRules<'a, 't>>, AllocError>
+    ensures { IfOk result (λ comments. name_indexes_of comments.items ≡ name_indexes.now) }
+{
+    let mut comments = Vec::new(alloc);
+    for name_index in name_indexes {
+        add_comment_rules(alloc, &mut comments, name_index)?;
+    }
+    Ok(comments)
+}
+
+fn add_comment_rules<'a, 't>(
+    alloc: Global,
+    comments: &mut Vec<CommentRules<'a, 't>>,
+    name_index: &'a NameIndex<'t>,
+) -> Result<(), AllocError>
+    ensures { OnOk result (name_indexes_of comments.new.items
+        ≡ name_indexes_of comments.old.items ++ name_index.now ∷ []) }
+{
+    comments.push(CommentRules::of(alloc, name_index)?)?;
+    Ok(())
 }
 
 /// Whether it is not ignored, and in a file that is asked for.
 fn is_reported(
     ignored: &[IgnoreRule],
     sources: &[Source],
-    name_indexes: &[NameIndex<'_>],
+    comments: &[CommentRules<'_, '_>],
     finding: &Finding,
 ) -> bool
-    ensures { result ≡ is_reported ignored.now sources.now name_indexes.now finding.now }
+    ensures { result ≡ is_reported ignored.now sources.now (name_indexes_of comments.now) finding.now }
 {
-    let kind = ReportedKind::Finding(finding.kind);
-    !is_ignored(ignored, kind, found_name(name_indexes, finding)) && is_asked(sources, finding.file)
+    let rules = comments.get(finding.file);
+    let name = found_name(rules, finding.place);
+    is_named_reported(ignored, rules, finding, name) && is_asked(sources, finding.file)
 }
 
-/// The name of the finding, as it is shown; empty where it has no place.
-fn found_name<'t>(name_indexes: &[NameIndex<'t>], finding: &Finding) -> &'t str
-    ensures { result.now ≡ found_name (slice_get name_indexes.now finding.now.file) finding.now.place }
+/// Whether neither a rule nor the comment there leaves it out.
+fn is_named_reported(
+    ignored: &[IgnoreRule],
+    comments: Option<&CommentRules<'_, '_>>,
+    finding: &Finding,
+    name: &str,
+) -> bool
+    ensures { result ≡ is_named_reported ignored.now (name_index_of comments.entry) finding.now name.now }
 {
-    match (name_indexes.get(finding.file), finding.place) {
-        (Some(name_index), Some(place)) => shown_name(name_index.text, place),
+    let kind = ReportedKind::Finding(finding.kind);
+    !is_ignored(ignored, kind, name) && !is_commented(comments, finding.place, kind, name)
+}
+
+/// Whether the comment of the entry there leaves out what is of the kind and has the name.
+fn is_commented(
+    comments: Option<&CommentRules<'_, '_>>,
+    place: Option<Span>,
+    kind: ReportedKind,
+    name: &str,
+) -> bool
+    ensures { result ≡ is_commented (name_index_of comments.entry) place kind name.now }
+{
+    match comments {
+        Some(rules) => rules.leave_out(place, kind, name),
+        None => false,
+    }
+}
+
+/// The name at the place, as it is shown; empty where there is none.
+fn found_name<'t>(comments: Option<&CommentRules<'_, 't>>, place: Option<Span>) -> &'t str
+    ensures { result.now ≡ found_name (name_index_of comments.entry) place }
+{
+    match (comments, place) {
+        (Some(rules), Some(place)) => shown_name(rules.name_index.text, place),
         _ => "",
     }
 }
@@ -347,7 +408,7 @@ fn is_error(levels: Levels<'_>, finding: &Finding) -> bool
     is_error_kind(levels, ReportedKind::Finding(finding.kind))
 }
 
-const KINDS: [Kind; 8] = [
+const KINDS: [Kind; 9] = [
     Kind::DefinedTwice,
     Kind::AttributeTwice,
     Kind::VariantTwice,
@@ -356,6 +417,7 @@ const KINDS: [Kind; 8] = [
     Kind::UndefinedAttribute,
     Kind::UndefinedValue,
     Kind::CyclicReference,
+    Kind::PluralCategory,
 ];
 
 /// Which files begin with a byte order mark; and how many findings there are of each kind that has some, in the set of

@@ -19,6 +19,7 @@ _MESSAGES = {
     "undefined-attribute": "no text defines its attribute `{name}`",
     "undefined-value": "no text gives the message `{name}` a value",
     "cyclic-reference": "`{name}` leads back to this reference",
+    "plural-category": "no number chooses the variant `{name}` in this language",
     "missing": "`{name}` of line {line} of the reference is missing",
     "missing-value": "the value of `{name}` of line {line} of the reference is missing",
     "missing-attribute": "the attribute `{name}` of line {line} of the reference is missing",

@@ -6,8 +6,8 @@ use crate::documents::occurrences::{bytes_of, is_name_byte};
 use crate::documents::positions::{Position, PositionRange, Positions, START};
 use crate::workspace::originals::Original;
 use fluent_syntax::spans::Span;
-use fluent_syntax_names::{Difference, MissingPart, NameIndex, Side, missing_parts, shown_name};
-use ftl_files::{IgnoreRule, ReportedKind, is_ignored};
+use fluent_syntax_names::{Difference, MissingPart, Side, missing_parts, shown_name};
+use ftl_files::{CommentRules, IgnoreRule, ReportedKind, is_ignored, is_part_left_out};
 use std::alloc::{AllocError, Global};
 
 /// What the original has and the document lacks, in the order of the original, and then what the document has and the
@@ -17,13 +17,15 @@ use std::alloc::{AllocError, Global};
 /// `AllocError` where a growth was refused.
 pub fn differences_of<'u>(
     alloc: Global,
-    document: &NameIndex<'_>,
+    document: &CommentRules<'_, '_>,
     original: &Original<'u>,
     shown: &str,
     ignored: &[IgnoreRule],
 ) -> Result<Vec<LintDiagnostic<'u>>, AllocError> {
-    let mut diagnostics = missing_of(alloc, document, original, shown, ignored)?;
-    diagnostics.append(&mut extra_of(alloc, document, original, shown, ignored)?)?;
+    let theirs = CommentRules::of(alloc, &original.name_index)?;
+    let mut diagnostics = missing_of(alloc, document, original, &theirs, shown, ignored)?;
+    let mut extra = extra_of(alloc, document, original, &theirs, shown, ignored)?;
+    diagnostics.append(&mut extra)?;
     Ok(diagnostics)
 }
 
@@ -31,18 +33,19 @@ pub fn differences_of<'u>(
 /// junk begins that is the entry; at the document's begin, where neither is.
 fn missing_of<'u>(
     alloc: Global,
-    document: &NameIndex<'_>,
+    own: &CommentRules<'_, '_>,
     original: &Original<'u>,
+    their: &CommentRules<'_, '_>,
     shown: &str,
     ignored: &[IgnoreRule],
 ) -> Result<Vec<LintDiagnostic<'u>>, AllocError> {
-    let theirs = &original.name_index;
+    let (document, theirs) = (own.name_index, &original.name_index);
     let missing_parts = missing_parts(alloc, theirs, document)?;
     let own_ranges = ranges_in_other(alloc, document.text, &missing_parts)?;
     let mut their_positions = Positions::new(theirs.text);
     let mut diagnostics = Vec::new(alloc);
     for missing in &missing_parts {
-        let difference = reported_difference(ignored, Side::Reference, theirs.text, missing);
+        let difference = reported_difference(ignored, Side::Reference, their, own, missing);
         if let Some(difference) = difference {
             let there = their_positions.range(missing.name);
             let place = place_text(alloc, shown, there.start)?;
@@ -64,18 +67,19 @@ fn missing_of<'u>(
 /// What is reported of that which the original lacks, or has as junk.
 fn extra_of<'u>(
     alloc: Global,
-    document: &NameIndex<'_>,
+    own: &CommentRules<'_, '_>,
     original: &Original<'u>,
+    their: &CommentRules<'_, '_>,
     shown: &str,
     ignored: &[IgnoreRule],
 ) -> Result<Vec<LintDiagnostic<'u>>, AllocError> {
-    let theirs = &original.name_index;
+    let (document, theirs) = (own.name_index, &original.name_index);
     let missing_parts = missing_parts(alloc, document, theirs)?;
     let their_ranges = ranges_in_other(alloc, theirs.text, &missing_parts)?;
     let mut positions = Positions::new(document.text);
     let mut diagnostics = Vec::new(alloc);
     for missing in &missing_parts {
-        let difference = reported_difference(ignored, Side::Other, document.text, missing);
+        let difference = reported_difference(ignored, Side::Other, own, their, missing);
         if let Some(difference) = difference {
             let junk = match name_in_other(theirs.text, missing) {
                 Some(name) if missing.is_junk() => Some(their_ranges.range(name)),
@@ -97,16 +101,18 @@ fn extra_of<'u>(
     Ok(diagnostics)
 }
 
-/// What is reported of a part that the file of this side, which has this text, has and the other one lacks.
+/// What is reported of a part that the file of this side has and the other one lacks.
 fn reported_difference(
     ignored: &[IgnoreRule],
     side: Side,
-    text: &str,
+    own: &CommentRules<'_, '_>,
+    other: &CommentRules<'_, '_>,
     missing: &MissingPart,
 ) -> Option<Difference> {
     let difference = side.difference(missing.part)?;
     let kind = ReportedKind::Difference(difference);
-    if is_ignored(ignored, kind, shown_name(text, missing.name)) {
+    let name = shown_name(own.name_index.text, missing.name);
+    if is_ignored(ignored, kind, name) || is_part_left_out(side, own, other, missing, kind, name) {
         return None;
     }
     Some(difference)

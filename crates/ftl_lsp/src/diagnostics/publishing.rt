@@ -19,9 +19,9 @@ use crate::workspace::file_sets::FileSet;
 use crate::workspace::originals::original_at;
 use crate::workspace::others::{look_up_others, name_indexes_of, others_of};
 use fluent_syntax_names::{
-    Finding, NameIndex, findings, findings_with_externals, local_findings, shown_name,
+    Finding, NameIndex, findings_in_language, local_findings_in_language, shown_name,
 };
-use ftl_files::{IgnoreRule, Levels, ReportedKind, is_ignored};
+use ftl_files::{CommentRules, IgnoreRule, Levels, ReportedKind, is_ignored};
 use serde_json::Value;
 use std::alloc::{AllocError, Global};
 use std::slice::from_ref;
@@ -70,9 +70,10 @@ impl Server {
             return Ok(Vec::new(self.alloc));
         }
         let name_index = open.document.name_index(self.alloc)?;
+        let comments = CommentRules::of(self.alloc, &name_index)?;
         let ignored = self.ignored_of(open)?;
-        let differences = self.differences(open, &name_index, &ignored)?;
-        let findings = self.reported_findings(uri, name_index, &ignored)?;
+        let differences = self.differences(open, &comments, &ignored)?;
+        let findings = self.reported_findings(uri, open, &comments, &ignored)?;
         let diagnostics = finding_diagnostics(self.alloc, uri, open.document.text(), &findings)?;
         let (related, levels) = (self.related, self.levels_of(open));
         let mut list = lint_diagnostic_list(self.alloc, &diagnostics, related, levels)?;
@@ -86,7 +87,7 @@ impl Server {
     fn differences(
         &self,
         open: &OpenDocument,
-        name_index: &NameIndex<'_>,
+        comments: &CommentRules<'_, '_>,
         ignored: &[IgnoreRule],
     ) -> Result<Vec<LintDiagnostic<'_>>, AllocError> {
         let none = Vec::new(self.alloc);
@@ -105,7 +106,7 @@ impl Server {
             return Ok(none);
         }
         let shown = self.workspace.display_path(there.as_str());
-        differences_of(self.alloc, name_index, &original, shown, ignored)
+        differences_of(self.alloc, comments, &original, shown, ignored)
     }
 
     /// How grave what is reported of a document is.
@@ -122,18 +123,18 @@ impl Server {
         }
     }
 
-    /// What is found in a document, but for this.
+    /// What is found in a document, but for this and what its comments leave out.
     fn reported_findings(
         &self,
         uri: &str,
-        name_index: NameIndex<'_>,
+        open: &OpenDocument,
+        comments: &CommentRules<'_, '_>,
         ignored: &[IgnoreRule],
     ) -> Result<Vec<Finding>, AllocError> {
-        let text = name_index.text;
-        self.findings(uri, name_index)?
+        self.findings(uri, open.document.name_index(self.alloc)?)?
             .iter()
             .copied()
-            .filter(|finding| is_reported(ignored, text, finding))
+            .filter(|finding| is_reported(ignored, comments, finding))
             .collect(self.alloc)
     }
 
@@ -142,15 +143,22 @@ impl Server {
     fn findings(&self, uri: &str, name_index: NameIndex<'_>) -> Result<Vec<Finding>, AllocError> {
         let (alloc, workspace) = (self.alloc, &self.workspace);
         let documents = self.documents.by_name();
+        let categories = self.categories_at(uri);
         if let Some(set) = searched_set(&self.documents, workspace, uri) {
             if let Some(others) = name_indexes_of(alloc, uri, set, documents, workspace)? {
-                return workspace_findings(alloc, name_index, others);
+                return workspace_findings(alloc, name_index, others, categories);
             }
             if let Some(others) = others_of(alloc, uri, set, documents, &self.defined, workspace)? {
-                return findings_with_externals(alloc, from_ref(&name_index), &others);
+                return findings_in_language(alloc, from_ref(&name_index), &others, categories);
             }
         }
-        local_findings(alloc, &name_index)
+        local_findings_in_language(alloc, &name_index, categories)
+    }
+
+    /// The plural categories of a document's language; None where they are not known.
+    fn categories_at(&self, uri: &str) -> Option<&'static [&'static str]> {
+        let path = self.documents.get(uri)?.path.as_deref()?;
+        self.workspace.set_of(path).categories()
     }
 }
 
@@ -175,21 +183,24 @@ fn workspace_findings<'o>(
     alloc: Global,
     file: NameIndex<'o>,
     mut others: Vec<NameIndex<'o>>,
+    categories: Option<&'o [&'o str]>,
 ) -> Result<Vec<Finding>, AllocError> {
     let mut files = Vec::new(alloc);
     files.push(file)?;
     files.append(&mut others)?;
-    findings(alloc, &files)?
+    findings_in_language(alloc, &files, &[], categories)?
         .iter()
         .copied()
         .filter(|finding| finding.file == 0)
         .collect(alloc)
 }
 
-/// Whether no rule leaves out the finding in this text.
-fn is_reported(ignored: &[IgnoreRule], text: &str, finding: &Finding) -> bool {
+/// Whether no rule and no comment leaves out the finding.
+fn is_reported(ignored: &[IgnoreRule], comments: &CommentRules<'_, '_>, finding: &Finding) -> bool {
+    let kind = ReportedKind::Finding(finding.kind);
+    let text = comments.name_index.text;
     let name = finding.place.map_or("", |place| shown_name(text, place));
-    !is_ignored(ignored, ReportedKind::Finding(finding.kind), name)
+    !is_ignored(ignored, kind, name) && !comments.leave_out(finding.place, kind, name)
 }
 
 /// Whether the findings of a document are sought, which takes the longer the longer it is.

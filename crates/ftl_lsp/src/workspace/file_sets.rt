@@ -1,5 +1,7 @@
 //! Which files are searched as one set.
 
+use fluent_syntax_names::{LANGUAGE_GROUPS, plural_categories_of};
+
 /// The files among which the names are looked for that a file refers to.
 #[derive(Clone, Copy, PartialEq, Eq)]
 pub enum FileSet<'p> {
@@ -18,5 +20,14 @@ impl<'p> FileSet<'p> {
             FileSet::Language(path) | FileSet::Alone(path) => path,
             FileSet::OfNoLanguage => "",
         }
+    }
+
+    /// The plural categories of the language, by the name of its folder. `None` where they are not known.
+    pub fn categories(self) -> Option<&'static [&'static str]> {
+        let FileSet::Language(folder) = self else {
+            return None;
+        };
+        let (_, name) = folder.rsplit_once('/')?;
+        plural_categories_of(LANGUAGE_GROUPS.as_slice(), name)
     }
 }

@@ -6,7 +6,7 @@ ghost use Rattle.ftl_project.specs.Differences.{is_error_severity, is_part_repor
 
 use crate::comparing::CompareOptions;
 use fluent_syntax_names::{MissingPart, Part, Severity, Side, shown_name};
-use ftl_files::{IgnoreRule, Levels, ReportedKind, is_ignored};
+use ftl_files::{CommentRules, IgnoreRule, Levels, ReportedKind, is_ignored, is_part_left_out};
 use std::alloc::{AllocError, Global};
 
 /// Whether a part that the file of this side has and the other one lacks is reported as an error.
@@ -29,31 +29,41 @@ pub(crate) fn counts_as_warning(levels: Levels<'_>, side: Side, part: Part) -> b
     }
 }
 
-/// Those of the parts that are reported; the text is that of the file of this side.
+/// Those of the parts that are reported, which the file of this side has.
 pub(crate) fn reported_parts(
     alloc: Global,
     ignored: &[IgnoreRule],
     side: Side,
-    text: &str,
+    own: &CommentRules<'_, '_>,
+    other: &CommentRules<'_, '_>,
     missing_parts: &[MissingPart],
 ) -> Result<Vec<MissingPart>, AllocError>
-    ensures { IfOk result (λ parts. parts.items ≡ reported_parts ignored.now side text.now missing_parts.now) }
+    ensures { IfOk result (λ parts. parts.items ≡ reported_parts ignored.now side own.now.name_index.now
+        other.now.name_index.now missing_parts.now) }
 {
     missing_parts
         .iter()
         .copied()
-        .filter(|missing| is_part_reported(ignored, side, text, missing))
+        .filter(|missing| is_part_reported(ignored, side, own, other, missing))
         .collect(alloc)
 }
 
-/// Whether a part that the file of this side, which has this text, has and the other one lacks is reported.
-fn is_part_reported(ignored: &[IgnoreRule], side: Side, text: &str, missing: &MissingPart) -> bool
-    ensures { result ≡ is_part_reported ignored.now side text.now missing.now }
+/// Whether a part that the file of this side has and the other one lacks is reported.
+fn is_part_reported(
+    ignored: &[IgnoreRule],
+    side: Side,
+    own: &CommentRules<'_, '_>,
+    other: &CommentRules<'_, '_>,
+    missing: &MissingPart,
+) -> bool
+    ensures { result ≡ is_part_reported ignored.now side own.now.name_index.now other.now.name_index.now missing.now }
 {
     match side.difference(missing.part) {
         Some(difference) => {
             let kind = ReportedKind::Difference(difference);
-            is_reported(ignored, kind, shown_name(text, missing.name))
+            let name = shown_name(own.name_index.text, missing.name);
+            is_reported(ignored, kind, name)
+                && !is_part_left_out(side, own, other, missing, kind, name)
         }
         None => true,
     }

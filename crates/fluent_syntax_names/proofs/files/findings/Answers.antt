@@ -1,4 +1,4 @@
-use Rattle.std.proofs.Common.{◌≡◌, ◌∙◌, [], refl, sym}
+use Rattle.std.proofs.Common.{◌≡◌, ◌∙◌, [], None, refl, sym}
 use Rattle.std.proofs.lemmas.Result.{IfOk-weaker}
 use Rattle.fluent_syntax_names.specs.Cycles.{links}
 use Rattle.fluent_syntax_names.specs.Findings.{all_findings}
@@ -16,7 +16,7 @@ returns-clause-findings c =
     let A = set_with_externals files (others_define []) in
     let B = set_of files in
     let defines = λ (name : Text). sym (bool_equals_itself_or_false (is_defined files name)) in
-    let same = findings_from_files_depend_on_cycles A B defines 0 files
+    let same = findings_from_files_depend_on_cycles A B defines None 0 files
     (equal_cycles_are_same_on_links A B (links files) (λ from to links_to. refl)) [] in
     IfOk-weaker c.findings_with_externals.result (λ list. list.items ≡ findings_with_externals files (others_define []))
     (λ list. list.items ≡ all_findings files) (λ list is. is ∙ same) c.findings_with_externals.ensures
