@@ -11,9 +11,9 @@
 #include <string.h>
 #include <sys/mman.h>
 
-enum { ROOM = 1 << 22, PAGE = 4096, MARK = 0xA5, CALLS = 27, ERRORS = 6, CAUSES = 8, NAMES = 10, VALUES = 12 };
+enum { ROOM = 1 << 22, PAGE = 4096, MARK = 0xA5, CALLS = 28, ERRORS = 6, CAUSES = 8, NAMES = 10, VALUES = 12 };
 enum { MESSAGES = 14, CAUSE_MESSAGES = 16, FINDINGS = 18, COMPARISON = 20, SET_VALUE = 22, REPLACE = 23, INSERT = 24 };
-enum { REMOVE = 25, FROM_JSON = 26 };
+enum { REMOVE = 25, SET_ATTRIBUTE = 26, FROM_JSON = 27 };
 
 /* ---- memory */
 
@@ -112,6 +112,9 @@ static uint32_t edit(int call, uint32_t edition, size_t nesting, const uint8_t *
     if (call == SET_VALUE)
         return ftl_set_value(edition, nesting, text, text_len, name, name_len, (const uint8_t *)"{ $new }", 8, array,
                              room, count);
+    if (call == SET_ATTRIBUTE)
+        return ftl_set_attribute(edition, nesting, text, text_len, name, name_len, "attr", 4, "{ $new }", 8, array, room,
+                                 count);
     if (call == REPLACE)
         return ftl_replace(edition, nesting, text, text_len, name, name_len, new_len != 0 ? entry : text,
                            new_len != 0 ? new_len : text_len, array, room, count);
@@ -376,7 +379,7 @@ static void odd_calls(void)
 }
 
 /* The name of a kind, with room for no byte, for each number of them and for more, and without memory. */
-static void kind_name(uint32_t (*name)(uint32_t, uint8_t *, size_t, size_t *), uint32_t kind)
+static void kind_name(uint32_t (*name)(uint32_t, void *, size_t, size_t *), uint32_t kind)
 {
     size_t whole = 0, count;
     if (name(kind, NULL, 0, &whole) != FTL_TOO_SMALL || whole == 0)
@@ -399,7 +402,7 @@ static void kind_name(uint32_t (*name)(uint32_t, uint8_t *, size_t, size_t *), u
         fault(CALLS, "a block was not given back", 0, kind);
 }
 
-/* The names of the kinds of errors and of findings. */
+/* The names of the kinds of errors and of findings, and of statuses; and the version. */
 static void kind_names(void)
 {
     size_t count;
@@ -409,6 +412,16 @@ static void kind_names(void)
         kind_name(ftl_finding_kind_name, kind);
     for (uint32_t kind = FTL_FINDING_MISSING; kind <= FTL_FINDING_UNKNOWN_FUNCTION; kind++)
         kind_name(ftl_finding_kind_name, kind);
+    for (uint32_t status = FTL_CLEAN; status <= FTL_PART_HAS_ERRORS; status++)
+        kind_name(ftl_status_name, status);
+    for (uint32_t rule = FTL_RULE_JUNK; rule <= FTL_RULE_NO_DEFAULT; rule++)
+        kind_name(ftl_status_name, rule);
+    if (ftl_version() != FTL_VERSION_NUMBER || FTL_VERSION_NUMBER / 100 != 100 * FTL_VERSION_MAJOR + FTL_VERSION_MINOR)
+        fault(CALLS, "another version", 0, ftl_version());
+    static const uint32_t none[] = {FTL_PART_HAS_ERRORS + 1, FTL_RULE_JUNK - 1, FTL_RULE_NO_DEFAULT + 1, 0xFFFFFFFF};
+    for (size_t i = 0; i < sizeof none / sizeof none[0]; i++)
+        if (ftl_status_name(none[i], want, ROOM, &count) != FTL_WRONG_ARGUMENT || count != 0)
+            fault(CALLS, "no status has that number", 0, none[i]);
     static const uint32_t wrong[] = {0, FTL_EXPECTED_LITERAL + 1, FTL_FINDING_MISSING - 1,
                                      FTL_FINDING_UNKNOWN_FUNCTION + 1, 0xFFFFFFFF};
     for (size_t i = 0; i < sizeof wrong / sizeof wrong[0]; i++) {
@@ -431,16 +444,20 @@ static void odd_edits(void)
         uint32_t status;
     } edits[] = {
         {SET_VALUE, "key", " N", FTL_SYNTAX_ERRORS},   {SET_VALUE, "-key", "N\n  N\n", FTL_SYNTAX_ERRORS},
-        {SET_VALUE, "k", "N", FTL_NOT_FOUND},          {SET_VALUE, "none", "N", FTL_NOT_FOUND},
+        {SET_VALUE, "k", "N", FTL_NOT_FOUND},          {SET_VALUE, "none", "N", FTL_NO_VALUE},
         {SET_VALUE, "", "N", FTL_NOT_FOUND},           {SET_VALUE, "key.a", "N", FTL_NOT_FOUND},
-        {SET_VALUE, "key", "", FTL_NOT_ONE_ENTRY},     {SET_VALUE, "key", "N\n  .a = A", FTL_NOT_ONE_ENTRY},
-        {SET_VALUE, "key", "N\nb = B", FTL_NOT_ONE_ENTRY}, {SET_VALUE, "key", "N }", FTL_NOT_ONE_ENTRY},
+        {SET_VALUE, "key", "", FTL_PART_HAS_ERRORS},   {SET_VALUE, "key", "N\n  .a = A", FTL_NOT_ONE_ENTRY},
+        {SET_VALUE, "key", "N\nb = B", FTL_NOT_ONE_ENTRY}, {SET_VALUE, "key", "N }", FTL_PART_HAS_ERRORS},
         {SET_VALUE, "\xFF", "N", FTL_NOT_UTF8},        {SET_VALUE, "key", "\xFF", FTL_NOT_UTF8},
         {REPLACE, "key", "# d\nn = N", FTL_SYNTAX_ERRORS}, {REPLACE, "-key", "# d", FTL_SYNTAX_ERRORS},
-        {REPLACE, "key", "n", FTL_NOT_ONE_ENTRY},      {REPLACE, "key", "a = A\nb = B", FTL_NOT_ONE_ENTRY},
-        {INSERT, "-key", "n = N", FTL_SYNTAX_ERRORS},  {INSERT, "", "n = N", FTL_READS_OTHERWISE},
+        {REPLACE, "key", "n", FTL_PART_HAS_ERRORS},    {REPLACE, "key", "a = A\nb = B", FTL_NOT_ONE_ENTRY},
+        {INSERT, "-key", "n = N", FTL_SYNTAX_ERRORS},  {INSERT, "", "n = N", FTL_SYNTAX_ERRORS},
         {INSERT, "k", "n = N", FTL_NOT_FOUND},         {INSERT, "key", "", FTL_NOT_ONE_ENTRY},
         {REMOVE, "last", "", FTL_SYNTAX_ERRORS},       {REMOVE, "bro", "", FTL_NOT_FOUND},
+        {INSERT, "key", "#  ", FTL_RULE_BLANK_COMMENT_LINE}, {REPLACE, "key", "a = A\r\n  B", FTL_SYNTAX_ERRORS},
+        {SET_ATTRIBUTE, "key", "N", FTL_SYNTAX_ERRORS}, {SET_ATTRIBUTE, "none", "N\r\n  N", FTL_SYNTAX_ERRORS},
+        {SET_ATTRIBUTE, "-key", "N", FTL_NO_VALUE},    {SET_ATTRIBUTE, "k", "N", FTL_NOT_FOUND},
+        {SET_ATTRIBUTE, "key", "N\n .b = B", FTL_NOT_ONE_ENTRY}, {SET_ATTRIBUTE, "key", "{", FTL_PART_HAS_ERRORS},
     };
     for (size_t i = 0; i < sizeof edits / sizeof edits[0]; i++) {
         const uint8_t *it = (const uint8_t *)text, *name = (const uint8_t *)edits[i].name;
@@ -450,6 +467,8 @@ static void odd_edits(void)
         uint32_t status =
             call == SET_VALUE ? ftl_set_value(1, 9, it, len, name, name_len, part, part_len, want, ROOM, &count)
             : call == REPLACE ? ftl_replace(1, 9, it, len, name, name_len, part, part_len, want, ROOM, &count)
+            : call == SET_ATTRIBUTE
+                ? ftl_set_attribute(1, 9, it, len, name, name_len, "a", 1, part, part_len, want, ROOM, &count)
             : call == INSERT  ? ftl_insert(1, 9, it, len, name, name_len, part, part_len, want, ROOM, &count)
                               : ftl_remove(1, 9, it, len, name, name_len, want, ROOM, &count);
         if (status != edits[i].status || (status > FTL_SYNTAX_ERRORS) != (count == 0))
@@ -457,27 +476,37 @@ static void odd_edits(void)
     }
     static const char wanted[] = "# c\nkey = N { $x }\n    .a = A\n\n-key = T\nbro ken\nnone =\n    .a = A\nlast = L";
     size_t count;
-    ftl_set_value(1, 9, (const uint8_t *)text, sizeof text - 1, (const uint8_t *)"key", 3, (const uint8_t *)"N {$x}", 6,
-                  want, ROOM, &count);
+    ftl_set_value(1, 9, text, sizeof text - 1, "key", 3, "N {$x}", 6, want, ROOM, &count);
     if (count != sizeof wanted - 1 || memcmp(want, wanted, count) != 0)
         fault(SET_VALUE, "another text of an edit", sizeof text, count);
+    ftl_set_attribute(1, 9, "a = A\n  .b=B\n  .b=C", 19, "a", 1, "b", 1, "N", 1, want, ROOM, &count);
+    if (count != 20 || memcmp(want, "a = A\n  .b= N\n  .b=C", count) != 0)
+        fault(SET_ATTRIBUTE, "another text of an edit", sizeof text, count);
+    ftl_insert(1, 9, "# c", 3, NULL, 0, "a = A\r\n B", 9, want, ROOM, &count);
+    if (count != 21 || memcmp(want, "# c\n\na =\n    A\n    B\n", count) != 0)
+        fault(INSERT, "another text of an edit", sizeof text, count);
 }
 
-/* Whether trees are canonical: JSON of some, and JSON that is none; and each request for memory refused. */
+/* Whether trees are canonical, and which rule one breaks: JSON of some, and JSON that is none; and each request for
+   memory refused. */
 static void canonical(void)
 {
     static const struct {
         const char *json;
         uint32_t status;
         size_t canonical;
+        uint32_t rule; /* of the first entry */
     } texts[] = {
-        {"{\"body\":[]}", FTL_CLEAN, 1},
-        {"{\"body\":[{\"type\":\"Comment\",\"content\":[\"c\"]}]}", FTL_CLEAN, 1},
-        {"{\"body\":[{\"type\":\"Comment\",\"content\":[\"  \"]}]}", FTL_CLEAN, 0},
-        {"{\"body\":[{\"type\":\"Junk\",\"content\":\"c\"}]}", FTL_CLEAN, 0},
-        {"{\"body\":5}", FTL_NO_TREE, 0}, {"", FTL_NO_TREE, 0}, {"\xFF", FTL_NOT_UTF8, 0},
+        {"{\"body\":[]}", FTL_CLEAN, 1, 0},
+        {"{\"body\":[{\"type\":\"Comment\",\"content\":[\"c\"]}]}", FTL_CLEAN, 1, 0},
+        {"{\"body\":[{\"type\":\"Comment\",\"content\":[\"  \"]}]}", FTL_CLEAN, 0, FTL_RULE_BLANK_COMMENT_LINE},
+        {"{\"body\":[{\"type\":\"Junk\",\"content\":\"c\"}]}", FTL_CLEAN, 0, FTL_RULE_JUNK},
+        {"{\"body\":5}", FTL_NO_TREE, 0, 0}, {"", FTL_NO_TREE, 0, 0}, {"\xFF", FTL_NOT_UTF8, 0, 0},
     };
+    static const char second[] = "{\"body\":[{\"type\":\"Comment\",\"content\":[\"c\"]},{\"type\":\"Junk\",\"content\":\"\"}]}";
     size_t told;
+    if (ftl_first_uncanonical(1, second, sizeof second - 1, &told) != FTL_RULE_JUNK || told != 1)
+        fault(CALLS, "another entry that is not canonical", sizeof second, told);
     for (size_t i = 0; i < sizeof texts / sizeof texts[0]; i++) {
         const uint8_t *json = (const uint8_t *)texts[i].json;
         size_t len = strlen(texts[i].json);
@@ -485,6 +514,10 @@ static void canonical(void)
             told = 99;
             if (ftl_is_canonical(edition, json, len, &told) != texts[i].status || told != texts[i].canonical)
                 fault(CALLS, "whether a tree is canonical", i, told);
+            uint32_t wants = texts[i].rule != 0 ? texts[i].rule : texts[i].status;
+            told = 99;
+            if (ftl_first_uncanonical(edition, json, len, &told) != wants || told != 0)
+                fault(CALLS, "another rule that is broken", i, told);
         }
         for (long number = 0, all = 0; !all; number++) {
             left = number;
@@ -498,6 +531,8 @@ static void canonical(void)
         }
         told = 99;
         if (ftl_is_canonical(3, json, len, &told) != FTL_WRONG_ARGUMENT || told != 0)
+            fault(CALLS, "no edition has that number", len, told);
+        if (ftl_first_uncanonical(3, json, len, &told) != FTL_WRONG_ARGUMENT || told != 0)
             fault(CALLS, "no edition has that number", len, told);
     }
     if (live != 0)
@@ -568,7 +603,7 @@ static void deep_calls(void)
                 for (int call = 0; call < FROM_JSON; call++) {
                     /* the text beside which findings are sought, and what is new in an edit, nest one deep */
                     int is_within = more == 0 && (call < FINDINGS || call == REPLACE || call == REMOVE || bounds[i] > 0);
-                    uint32_t wants = is_within ? FTL_CLEAN : FTL_TOO_DEEP;
+                    uint32_t wants = !is_within ? FTL_TOO_DEEP : call == SET_ATTRIBUTE ? FTL_NO_VALUE : FTL_CLEAN;
                     size_t bytes = ROOM / 2 / size_of(call) * size_of(call);
                     uint32_t status =
                         made(call, bounds[i], text_end - len, len, array_end - bytes, bytes / size_of(call), &count);

@@ -194,6 +194,17 @@ class Spans(unittest.TestCase):
         assert isinstance(bare, ast.Message) and bare.value
         self.assertIsNone(bare.value.span)
 
+    def test_entries(self) -> None:
+        """Entries without their last line end, and with the comment before them; comments by themselves."""
+        text = "## ü\r\n##\r\n\r\n# ä\n# b\nkey =\n    T\n    U\n\n# c\n\n  \n### d\nbro ken\n\n-t = x\n    .a = y\n# e"
+        body = dovelectern.parse(text).body
+        self.assertEqual([text[it.span.start:it.span.end] for it in body if it.span],
+                         ["## ü\r\n##", "# ä\n# b\nkey =\n    T\n    U", "# c", "### d", "bro ken\n\n",
+                          "-t = x\n    .a = y", "# e"])
+        key = body[1]
+        assert isinstance(key, ast.Message) and key.comment and key.comment.span
+        self.assertEqual(text[key.comment.span.start:key.comment.span.end], "# ä\n# b")
+
 
 class Files(unittest.TestCase):
     def test_files(self) -> None:

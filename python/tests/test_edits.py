@@ -33,18 +33,46 @@ class Edits(unittest.TestCase):
         self.assertEqual(dovelectern.remove(TEXT, "-brand"), head + tail)
         self.assertEqual(dovelectern.remove(TEXT, "hello"), TEXT[TEXT.index("-brand"):])
 
+    def test_set_attribute(self) -> None:
+        self.assertEqual(dovelectern.set_attribute(TEXT, "hello", "title", "{$x}"), TEXT.replace("= T", "= { $x }"))
+        self.assertEqual(dovelectern.set_attribute(TEXT, "none", "a", ast.Pattern.from_text("é")), TEXT)
+        self.assertEqual(dovelectern.set_attribute(b"-a = b\n .c=d\n .c=e\n", "-a", "c", "f"),
+                         "-a = b\n .c= f\n .c=e\n")
+
+    def test_lines(self) -> None:
+        """Line ends are read as LF, and an entry at the end begins a line, also after a comment."""
+        lines = ast.Pattern([ast.TextElement("a\n"), ast.TextElement("b")])
+        self.assertEqual(ast.Pattern.from_text("a\r\nb"), lines)
+        self.assertEqual(dovelectern.set_value("x = y", "x", lines), "x =\n    a\n    b\n")
+        self.assertEqual(dovelectern.set_value("x = y\r\n", "x", "a\r\n  b"), "x =\n    a\n    b\n")
+        self.assertEqual(dovelectern.insert("a = b", "c = d"), "a = b\nc = d\n")
+        self.assertEqual(dovelectern.insert("# a", "c = d"), "# a\n\nc = d\n")
+        whole = ast.Resource([message("x", "a\nb\n\n", "c", "d")])
+        split = dovelectern.split(whole)
+        self.assertEqual(split.body[0], message("x", "a\n", "b\n", "\n", "cd"))
+        self.assertEqual(dovelectern.joined(split), dovelectern.joined(whole))
+        self.assertTrue(dovelectern.is_canonical(split))
+
     def test_refused(self) -> None:
         call: Callable[[], Any]
         for error, told, call in (
-            (dovelectern.NotFound, "with a value is named none", lambda: dovelectern.set_value(TEXT, "none", "N")),
+            (dovelectern.NoValue, "with a value is named none", lambda: dovelectern.set_value(TEXT, "none", "N")),
             (dovelectern.NotFound, "no message or term is named brand", lambda: dovelectern.remove(TEXT, "brand")),
             (dovelectern.NotFound, "is named hello.title", lambda: dovelectern.replace(TEXT, "hello.title", "a = b")),
             (dovelectern.NotFound, "", lambda: dovelectern.insert(TEXT, "a = b", before="")),
             (dovelectern.NotOneEntry, "the value", lambda: dovelectern.set_value(TEXT, "hello", "N\nb = B")),
-            (dovelectern.NotOneEntry, "the entry", lambda: dovelectern.replace(TEXT, "hello", "bro ken")),
+            (dovelectern.PartHasErrors, "the entry", lambda: dovelectern.replace(TEXT, "hello", "bro ken")),
+            (dovelectern.NoValue, "such an attribute is named hello",
+             lambda: dovelectern.set_attribute(TEXT, "hello", "label", "N")),
+            (dovelectern.NotFound, "is named bye", lambda: dovelectern.set_attribute(TEXT, "bye", "title", "N")),
+            (dovelectern.PartHasErrors, "the value", lambda: dovelectern.set_attribute(TEXT, "hello", "title", "{")),
             (dovelectern.NotOneEntry, "the entry", lambda: dovelectern.insert(TEXT, ast.Junk("junk"))),
-            (dovelectern.ReadsOtherwise, "the new text", lambda: dovelectern.insert("a = b", "c = d")),
-            (dovelectern.ReadsOtherwise, r"body\[0\]", lambda: dovelectern.replace(TEXT, "hello", message("a", "{"))),
+            (dovelectern.ReadsOtherwise, "the new text", lambda: dovelectern.remove("x = { $a\nb = c\n->\n", "b")),
+            (dovelectern.ReadsOtherwise, "the new text.*BlankCommentLine", lambda: dovelectern.insert(TEXT, "#  ")),
+            (dovelectern.ReadsOtherwise, "the entry.*BraceInText",
+             lambda: dovelectern.replace(TEXT, "hello", message("a", "{"))),
+            (dovelectern.ReadsOtherwise, "the value.*LfWithinText",
+             lambda: dovelectern.set_value(TEXT, "hello", ast.Pattern([ast.TextElement("a\nb")]))),
             (dovelectern.TooDeep, "one of the texts", lambda: dovelectern.set_value(TEXT, "hello", "{{ $a }}", nesting=1)),
             (ValueError, "an edition", lambda: dovelectern.remove(TEXT, "hello", edition=3)),
             (UnicodeDecodeError, "", lambda: dovelectern.remove(b"\xff", "hello")),
@@ -88,6 +116,17 @@ class Canonical(unittest.TestCase):
             dovelectern.is_canonical(wrong)
         with self.assertRaises(ValueError):
             dovelectern.is_canonical(ast.Resource(), edition=3)
+
+    def test_first_uncanonical(self) -> None:
+        for tree, wanted in (
+            (ast.Resource(), None), (ast.Resource([message("a", "b"), message("a", "{")]), (1, "BraceInText")),
+            (ast.Resource([ast.Comment("  ")]), (0, "BlankCommentLine")),
+        ):
+            found = dovelectern.first_uncanonical(tree)
+            self.assertEqual(found, wanted and dovelectern.Uncanonical(*wanted))
+        with self.assertRaises(dovelectern.ReadsOtherwise) as raised:
+            dovelectern.serialize(ast.Resource([message("a", "b"), message("c", " d")]))
+        self.assertEqual((str(raised.exception)[:7], raised.exception.rule), ("body[1]", "LeadingSpace"))
 
     def test_reads_back(self) -> None:
         """A canonical tree is what its text is read as."""

@@ -8,6 +8,7 @@
     library.values(b"key = value\n    .a = b\n")  # [Value(start=5, end=12), Value(start=20, end=23)]
     library.findings([b"a = { b }\n"])            # [Finding(text=0, line=1, column=7, ..)]
     library.comparison(b"a = A\n", b"b = B\n")    # [Finding(..), Finding(..)]
+    library.edited("ftl_set_attribute", b"key =\n    .a = b\n", b"key", b"a", b"c")  # b"key =\n    .a = c\n"
 """
 import collections
 import ctypes
@@ -23,6 +24,10 @@ class TooDeep(ValueError):
 
 class NoTree(ValueError):
     """The text is no JSON, or JSON that spells no tree."""
+
+
+class NotEdited(ValueError):
+    """An edit that is not made, by the name of its status, as NotFound."""
 
 
 def _record(name, fields, last):
@@ -59,6 +64,9 @@ class Fluent:
             "ftl_causes": [*read, *text], "ftl_cause_messages": [*read, *text],
             "ftl_findings": [*read, ctypes.POINTER(_TEXT), ctypes.c_size_t],
             "ftl_comparison": [*read, *text, *text], "ftl_kind_name": read[:1], "ftl_finding_kind_name": read[:1],
+            "ftl_status_name": read[:1], "ftl_remove": [*read, *text, *text],
+            "ftl_set_attribute": [*read, *text, *text, *text, *text],
+            **{name: [*read, *text, *text, *text] for name in ("ftl_set_value", "ftl_replace", "ftl_insert")},
         }.items():
             call = self._calls[name] = getattr(library, name)
             call.restype = ctypes.c_uint32
@@ -82,6 +90,8 @@ class Fluent:
                 raise TooDeep
             elif status == NO_TREE:
                 raise NoTree
+            elif status > NO_TREE:
+                raise NotEdited(self.status_name(status))
             else:
                 raise ValueError(f"{name} has no {arguments[0]}")
 
@@ -144,3 +154,13 @@ class Fluent:
     def finding_kind_name(self, kind):
         """The name of a kind of findings."""
         return self._name("ftl_finding_kind_name", kind)
+
+    def status_name(self, status):
+        """The name of a status."""
+        return self._name("ftl_status_name", status)
+
+    def edited(self, call, text, *parts, edition=1, nesting=NESTING):
+        """What an edit makes of the bytes: the call by its name, the name of an entry, and what else it takes."""
+        arguments = [edition, nesting, *(it for part in (text, *parts) for it in (part, len(part)))]
+        out, length, _ = self._items(call, arguments, ctypes.c_char, 2 * len(text) + 1024)
+        return out.raw[:length]

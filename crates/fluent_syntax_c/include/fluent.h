@@ -6,7 +6,7 @@
    it takes, so that no text ends the host.
 
    A pointer may be null where its length is 0. `needed` and `count` are not null. What is read and what is written to
-   do not overlap. */
+   do not overlap. A text may be char or uint8_t: each is taken without a cast. */
 #ifndef FLUENT_H
 #define FLUENT_H
 
@@ -14,6 +14,7 @@
 #define FTL_VERSION_MAJOR 2
 #define FTL_VERSION_MINOR 4
 #define FTL_VERSION "2.4.0"
+#define FTL_VERSION_NUMBER 20400 /* 10000 times the first number, 100 times the second, and the third; since 2.4 */
 
 #include <stddef.h>
 #include <stdint.h>
@@ -33,9 +34,45 @@ enum ftl_status {
     FTL_TOO_SMALL = 5,      /* the array has no room for all that there is: call again with more */
     FTL_TOO_DEEP = 6,       /* the text nests more deeply than `nesting` allows, or JSON more than 127 deep */
     FTL_NO_TREE = 7,        /* of JSON: the text is no JSON, or JSON that spells no tree */
-    FTL_NOT_FOUND = 8,      /* of edits, since 2.4: nothing has the name, or it has no value */
+    FTL_NOT_FOUND = 8,      /* of edits, since 2.4: nothing has the name */
     FTL_NOT_ONE_ENTRY = 9,  /* what is new is not exactly one entry, or one value */
-    FTL_READS_OTHERWISE = 10 /* the new text would be read otherwise than as the text with the edit made */
+    FTL_READS_OTHERWISE = 10, /* the new text would be read otherwise than as the text with the edit made */
+    FTL_NO_VALUE = 11,      /* what has the name has no value, or no such attribute */
+    FTL_PART_HAS_ERRORS = 12 /* what is new has syntax errors */
+};
+
+/* Statuses too, since 2.4: what is new in an edit, or the entry of a tree, would be read otherwise, and this is the first
+   rule of canonical trees that it breaks. docs/GRAMMAR.md has the rules. */
+enum ftl_rule {
+    FTL_RULE_JUNK = 101,
+    FTL_RULE_EMPTY_MESSAGE = 102,
+    FTL_RULE_LF_IN_COMMENT = 103,
+    FTL_RULE_EMPTY_PATTERN = 104,
+    FTL_RULE_EMPTY_TEXT = 105,
+    FTL_RULE_BRACE_IN_TEXT = 106,
+    FTL_RULE_CR_BEFORE_LF = 107,
+    FTL_RULE_LF_WITHIN_TEXT = 108,
+    FTL_RULE_TEXT_AFTER_TEXT = 109,
+    FTL_RULE_BLANK_FIRST_TEXT = 110,
+    FTL_RULE_LEADING_SPACE = 111,
+    FTL_RULE_BLANK_END = 112,
+    FTL_RULE_LINE_OF_SPACES = 113,
+    FTL_RULE_MARKED_LINE = 114,
+    FTL_RULE_FORBIDDEN_SELECTOR = 115,
+    FTL_RULE_SECOND_DEFAULT = 116,
+    FTL_RULE_TERM_ATTRIBUTE = 117,
+    FTL_RULE_FORBIDDEN_CALLEE = 118,
+    FTL_RULE_FORBIDDEN_ARGUMENT = 119,
+    FTL_RULE_REPEATED_ARGUMENT = 120,
+    FTL_RULE_MISSPELLED_STRING = 121,
+    FTL_RULE_MISSPELLED_NUMBER = 122,
+    FTL_RULE_MISSPELLED_NAME = 123,
+    FTL_RULE_EMPTY_COMMENT = 124,
+    FTL_RULE_BLANK_COMMENT_LINE = 125,
+    FTL_RULE_HIDDEN_MARK = 126,
+    FTL_RULE_COMMON_INDENT = 127,
+    FTL_RULE_SPACES_ON_BLANK_LINE = 128,
+    FTL_RULE_NO_DEFAULT = 129
 };
 
 /* A `nesting` that does for texts that people write: how many placeables and argument lists may be open at once. Each
@@ -138,7 +175,7 @@ struct ftl_value {
 
 /* A text: its bytes, and how many they are. */
 struct ftl_text {
-    const uint8_t *text;
+    const void *text;
     size_t text_len;
 };
 
@@ -191,41 +228,41 @@ struct ftl_finding {
 
 /* Writes what the command, an ftl_command, writes for the text: `*needed` bytes of UTF-8 without a 0 behind them.
    FTL_FROM_JSON does not look at `nesting`. Returns an ftl_status. */
-uint32_t ftl_answer(uint32_t command, size_t nesting, const uint8_t *text, size_t text_len,
-                    uint8_t *out, size_t out_len, size_t *needed);
+uint32_t ftl_answer(uint32_t command, size_t nesting, const void *text, size_t text_len,
+                    void *out, size_t out_len, size_t *needed);
 
 /* Writes a row for each syntax error of the text, in order: `*count` rows. `edition` is an ftl_edition.
    Returns an ftl_status. */
-uint32_t ftl_errors(uint32_t edition, size_t nesting, const uint8_t *text, size_t text_len,
+uint32_t ftl_errors(uint32_t edition, size_t nesting, const void *text, size_t text_len,
                     struct ftl_error *rows, size_t rows_len, size_t *count);
 
 /* Writes a row for each message, each term and each attribute of the text, in order, those of a message or a term
    behind its own: `*count` rows. What was refused has none. `edition` is an ftl_edition. Returns an ftl_status. */
-uint32_t ftl_names(uint32_t edition, size_t nesting, const uint8_t *text, size_t text_len,
+uint32_t ftl_names(uint32_t edition, size_t nesting, const void *text, size_t text_len,
                    struct ftl_name *rows, size_t rows_len, size_t *count);
 
 /* Writes where the value of each message, each term and each attribute of the text stands: `*count` rows, as many as
    those of ftl_names and in the same order: values[i] is that of names[i]. `edition` is an ftl_edition. Returns an
    ftl_status. Since 2.3. */
-uint32_t ftl_values(uint32_t edition, size_t nesting, const uint8_t *text, size_t text_len,
+uint32_t ftl_values(uint32_t edition, size_t nesting, const void *text, size_t text_len,
                     struct ftl_value *rows, size_t rows_len, size_t *count);
 
 /* Writes the message of each syntax error of the text, in order and each on a line of its own, with what was expected:
    `*needed` bytes of UTF-8. A line end that a message tells of is written as \n or \r. `edition` is an ftl_edition.
    Returns an ftl_status. */
-uint32_t ftl_error_messages(uint32_t edition, size_t nesting, const uint8_t *text, size_t text_len,
-                            uint8_t *out, size_t out_len, size_t *needed);
+uint32_t ftl_error_messages(uint32_t edition, size_t nesting, const void *text, size_t text_len,
+                            void *out, size_t out_len, size_t *needed);
 
 /* Writes the cause of each syntax error of the text: `*count` rows, as many as those of ftl_errors and in the same
    order: causes[i] is that of errors[i]. `edition` is an ftl_edition. Returns an ftl_status. Since 2.4. */
-uint32_t ftl_causes(uint32_t edition, size_t nesting, const uint8_t *text, size_t text_len,
+uint32_t ftl_causes(uint32_t edition, size_t nesting, const void *text, size_t text_len,
                     struct ftl_cause *rows, size_t rows_len, size_t *count);
 
 /* Writes what the cause of each syntax error of the text is, in order and each on a line of its own, which is empty
    where none is known: `*needed` bytes of UTF-8. A line end in a message is written as \n or \r. What a message says
    may change with each version. `edition` is an ftl_edition. Returns an ftl_status. Since 2.4. */
-uint32_t ftl_cause_messages(uint32_t edition, size_t nesting, const uint8_t *text, size_t text_len,
-                            uint8_t *out, size_t out_len, size_t *needed);
+uint32_t ftl_cause_messages(uint32_t edition, size_t nesting, const void *text, size_t text_len,
+                            void *out, size_t out_len, size_t *needed);
 
 /* Writes a row for each finding in the texts, which are those of one language, in the order of the texts and of the
    names in each: `*count` rows. They may refer to one another. `edition` is an ftl_edition. Returns an ftl_status. */
@@ -235,17 +272,17 @@ uint32_t ftl_findings(uint32_t edition, size_t nesting, const struct ftl_text *t
 /* Writes a row for all that the other text, a translation of the reference, lacks of it, in the order of the reference;
    and behind them one for all that is obsolete or unknown in the other text, in its order: `*count` rows. `edition` is
    an ftl_edition. Returns an ftl_status. */
-uint32_t ftl_comparison(uint32_t edition, size_t nesting, const uint8_t *reference, size_t reference_len,
-                        const uint8_t *other, size_t other_len,
+uint32_t ftl_comparison(uint32_t edition, size_t nesting, const void *reference, size_t reference_len,
+                        const void *other, size_t other_len,
                         struct ftl_finding *rows, size_t rows_len, size_t *count);
 
 /* Writes the name of an ftl_finding_kind, as defined-twice: `*needed` bytes without a 0 behind them.
    Returns FTL_CLEAN, or why nothing was written. */
-uint32_t ftl_finding_kind_name(uint32_t kind, uint8_t *out, size_t out_len, size_t *needed);
+uint32_t ftl_finding_kind_name(uint32_t kind, void *out, size_t out_len, size_t *needed);
 
 /* Writes the name of an ftl_error_kind, as ExpectedToken: `*needed` bytes without a 0 behind them.
    Returns FTL_CLEAN, or why nothing was written. */
-uint32_t ftl_kind_name(uint32_t kind, uint8_t *out, size_t out_len, size_t *needed);
+uint32_t ftl_kind_name(uint32_t kind, void *out, size_t out_len, size_t *needed);
 
 /* Edits, since 2.4: each writes the text with one message or term changed and all else as it is, byte for byte:
    `*needed` bytes of UTF-8. `name` is that of the first message of that name, or, with its '-', of a term; comments
@@ -254,28 +291,46 @@ uint32_t ftl_kind_name(uint32_t kind, uint8_t *out, size_t out_len, size_t *need
    ftl_status. */
 
 /* With the value, as it stands behind a '=', in place of that of the message or the term. */
-uint32_t ftl_set_value(uint32_t edition, size_t nesting, const uint8_t *text, size_t text_len,
-                       const uint8_t *name, size_t name_len, const uint8_t *value, size_t value_len,
-                       uint8_t *out, size_t out_len, size_t *needed);
+uint32_t ftl_set_value(uint32_t edition, size_t nesting, const void *text, size_t text_len,
+                       const void *name, size_t name_len, const void *value, size_t value_len,
+                       void *out, size_t out_len, size_t *needed);
+
+/* With the value in place of that of the first attribute of that name of the message or the term. */
+uint32_t ftl_set_attribute(uint32_t edition, size_t nesting, const void *text, size_t text_len,
+                           const void *name, size_t name_len, const void *attribute, size_t attribute_len,
+                           const void *value, size_t value_len, void *out, size_t out_len, size_t *needed);
 
 /* With the entry in place of the message or the term and its comment. */
-uint32_t ftl_replace(uint32_t edition, size_t nesting, const uint8_t *text, size_t text_len,
-                     const uint8_t *name, size_t name_len, const uint8_t *entry, size_t entry_len,
-                     uint8_t *out, size_t out_len, size_t *needed);
+uint32_t ftl_replace(uint32_t edition, size_t nesting, const void *text, size_t text_len,
+                     const void *name, size_t name_len, const void *entry, size_t entry_len,
+                     void *out, size_t out_len, size_t *needed);
 
-/* With the entry before the message or the term and its comment; with no name, where `name_len` is 0, at the end. */
-uint32_t ftl_insert(uint32_t edition, size_t nesting, const uint8_t *text, size_t text_len,
-                    const uint8_t *name, size_t name_len, const uint8_t *entry, size_t entry_len,
-                    uint8_t *out, size_t out_len, size_t *needed);
+/* With the entry before the message or the term and its comment; with no name, where `name_len` is 0, at the end. A line
+   end or two come before it where it would be read otherwise without them. */
+uint32_t ftl_insert(uint32_t edition, size_t nesting, const void *text, size_t text_len,
+                    const void *name, size_t name_len, const void *entry, size_t entry_len,
+                    void *out, size_t out_len, size_t *needed);
 
 /* Without the message or the term, its comment and the blank lines behind it. */
-uint32_t ftl_remove(uint32_t edition, size_t nesting, const uint8_t *text, size_t text_len,
-                    const uint8_t *name, size_t name_len, uint8_t *out, size_t out_len, size_t *needed);
+uint32_t ftl_remove(uint32_t edition, size_t nesting, const void *text, size_t text_len,
+                    const void *name, size_t name_len, void *out, size_t out_len, size_t *needed);
 
 /* Writes 1 to `*canonical` if the tree that the JSON spells, as FTL_JSON writes it, is canonical, and otherwise 0: the
    text that FTL_FROM_JSON writes of a canonical tree is read as that tree. `edition` is an ftl_edition. Returns
    FTL_CLEAN, or why nothing is known. Since 2.4. */
-uint32_t ftl_is_canonical(uint32_t edition, const uint8_t *json, size_t json_len, size_t *canonical);
+uint32_t ftl_is_canonical(uint32_t edition, const void *json, size_t json_len, size_t *canonical);
+
+/* Writes to `*entry` the number, from 0, of the first entry that is not canonical, of the tree that the JSON spells.
+   Returns the ftl_rule that it breaks first; FTL_CLEAN, and 0 in `*entry`, where the tree is canonical; or why nothing is
+   known. `edition` is an ftl_edition. Since 2.4. */
+uint32_t ftl_first_uncanonical(uint32_t edition, const void *json, size_t json_len, size_t *entry);
+
+/* Writes the name of an ftl_status or an ftl_rule, as TooSmall: `*needed` bytes without a 0 behind them.
+   Returns FTL_CLEAN, or why nothing was written. Since 2.4. */
+uint32_t ftl_status_name(uint32_t status, void *out, size_t out_len, size_t *needed);
+
+/* The version of the library that is linked: FTL_VERSION_NUMBER, if it is that of this header. Since 2.4. */
+uint32_t ftl_version(void);
 
 #ifdef __cplusplus
 }

@@ -5,27 +5,29 @@ use Rattle.std.proofs.Common.{refl, sym, ap, ◌∙◌, subst}
 use Rattle.std.specs.Global.{Global}
 use Rattle.std.specs.Prelude.{◌↔◌, ◌⊎◌, IfErr, Vec}
 use Rattle.std.specs.Str.{IsUtf8}
-use Rattle.fluent_syntax_tree.specs.Entry.{BodyTree, EntryTree}
+use Rattle.fluent_syntax_tree.specs.Entry.{AttributeTree, BodyTree, EntryTree}
 use Rattle.fluent_syntax_tree.specs.Tree.{PatternTree}
 use Rattle.fluent_syntax_tree.specs.View.{entry_view, resource_view}
 use Rattle.fluent_syntax_tree.specs.declared.ast.Entry.{Entry}
 use Rattle.fluent_syntax_tree.specs.declared.edition.Edition.{Edition}
 use Rattle.fluent_syntax_tree.specs.declared.edition.Edition.TheVariants.{One, Two}
 use Rattle.fluent_syntax_grammar.specs.Body.{faults}
+use Rattle.fluent_syntax_grammar.specs.Joined.{joined_pattern}
 use Rattle.fluent_syntax_grammar.specs.RoundTrip.{ReadsAs, tree_of}
 use Rattle.fluent_syntax_grammar.specs.Tiling.{Fault}
 use Rattle.fluent_syntax_grammar.specs.Written.{Text}
 use Rattle.fluent_syntax_grammar.proofs.OneTiling.{tilings_of_text_are_same}
-use Rattle.fluent_syntax_edits.specs.Changes.{Change, inserts, replaces}
+use Rattle.fluent_syntax_edits.specs.Changes.{Change, inserts, replaces, joined_part}
 use Rattle.fluent_syntax_edits.specs.Edits.{IsEditResult}
 use Rattle.fluent_syntax_edits.specs.declared.fault.EditFault.{EditFault}
+use Rattle.fluent_syntax_edits.specs.AttributeChanges.{sets_attribute}
 use Rattle.ftl.specs.Answer.{outcome_of, outcome_with}
 use Rattle.ftl.specs.declared.outcome.Outcome.{Outcome}
 use Rattle.ftl.specs.declared.outcome.Outcome.TheVariants.{Clean, SyntaxErrors}
 use Rattle.fluent_syntax_c.specs.Arguments.{IsNoEdition, edition_number}
 use Rattle.fluent_syntax_c.specs.Depth.{EditionReadsDeeper}
 use Rattle.fluent_syntax_c.specs.Edits.{GivesEdit, IsEdited, IsEditionTextTree, IsNotEdited, IsTextTree, SetsValue}
-use Rattle.fluent_syntax_c.specs.Edits.{Spells, part_source, place_of, value_message}
+use Rattle.fluent_syntax_c.specs.Edits.{Spells, attribute_number, part_source, place_of, value_message}
 use Rattle.fluent_syntax_c.specs.Output.{LeavesOutput}
 use Rattle.fluent_syntax_c.specs.Status.{EndsAs, edit_refusal_number, refusal_number}
 use Rattle.fluent_syntax_c.specs.declared.status.EditRefusal.{EditRefusal}
@@ -33,7 +35,7 @@ use Rattle.fluent_syntax_c.specs.declared.status.Refusal.{Refusal}
 use Rattle.fluent_syntax_c.specs.declared.status.Refusal.TheVariants.{Argument, Input, Depth, Tree}
 use Rattle.fluent_syntax_c.proofs.Statuses.{either_of_two_absurd_is_absurd, new_text_is_given, unmade_edit_has_reason}
 use Rattle.fluent_syntax_c.specs.declared.edited.Action.{Action}
-use Rattle.fluent_syntax_c.specs.declared.edited.Action.TheVariants.{SetValue, Replace, Insert}
+use Rattle.fluent_syntax_c.specs.declared.edited.Action.TheVariants.{SetValue, SetAttribute, Replace, Insert}
 use Rattle.fluent_syntax_c.specs.declared.text_trees.TextTree.{TextTree}
 
 -- no two editions have one number
@@ -112,28 +114,40 @@ module _ (action : Action) (edition : Edition) (p : Text) (part : TextTree)
   -- what has no value spells no change of one, and what has no entry no change of one
   pub part_that_is_no_value_spells_no_change : action ≡ SetValue →
       ((edition : Edition) (t : List ℕ) → IsTextTree edition t part →
-      (v : PatternTree Text) → ReadsAs edition t (value_message v ∷ []) → ⊥) → (change : Change) →
-      Spells edition action p change → ⊥
-  part_that_is_no_value_spells_no_change e none change spells =
-      let own = subst (λ a. Spells edition a p change) e spells in
-      none edition (part_source SetValue p) (subst (λ a. IsTextTree edition (part_source a p) part) e is) own.0 own.1
+      (v : PatternTree Text) → ReadsAs edition t (value_message v ∷ []) → ⊥) →
+      (own : List (AttributeTree Text)) (change : Change) → Spells edition action own p change → ⊥
+  part_that_is_no_value_spells_no_change e none own change spells =
+      let spelled = subst (λ a. Spells edition a own p change) e spells in
+      none edition (part_source SetValue p) (subst (λ a. IsTextTree edition (part_source a p) part) e is) spelled.0
+      spelled.1
+
+  pub part_that_is_no_value_spells_no_attribute : (name : Bor (List ℕ)) → action ≡ SetAttribute name →
+      ((edition : Edition) (t : List ℕ) → IsTextTree edition t part →
+      (v : PatternTree Text) → ReadsAs edition t (value_message v ∷ []) → ⊥) →
+      (own : List (AttributeTree Text)) (change : Change) → Spells edition action own p change → ⊥
+  part_that_is_no_value_spells_no_attribute name e none own change spells =
+      let spelled = subst (λ a. Spells edition a own p change) e spells in
+      none edition (part_source SetValue p) (subst (λ a. IsTextTree edition (part_source a p) part) e is) spelled.0
+      spelled.1
 
   pub part_that_is_no_entry_spells_no_replacement : action ≡ Replace →
       ((edition : Edition) (t : List ℕ) → IsTextTree edition t part →
-      (e : EntryTree Text) → ReadsAs edition t (e ∷ []) → ⊥) → (change : Change) → Spells edition action p change → ⊥
-  part_that_is_no_entry_spells_no_replacement e none change spells =
-      let own = subst (λ a. Spells edition a p change) e spells in
-      none edition p (subst (λ a. IsTextTree edition (part_source a p) part) e is) own.0 own.1
+      (e : EntryTree Text) → ReadsAs edition t (e ∷ []) → ⊥) →
+      (own : List (AttributeTree Text)) (change : Change) → Spells edition action own p change → ⊥
+  part_that_is_no_entry_spells_no_replacement e none own change spells =
+      let spelled = subst (λ a. Spells edition a own p change) e spells in
+      none edition p (subst (λ a. IsTextTree edition (part_source a p) part) e is) spelled.0 spelled.1
 
   pub part_that_is_no_entry_spells_no_insertion : action ≡ Insert →
       ((edition : Edition) (t : List ℕ) → IsTextTree edition t part →
-      (e : EntryTree Text) → ReadsAs edition t (e ∷ []) → ⊥) → (change : Change) → Spells edition action p change → ⊥
-  part_that_is_no_entry_spells_no_insertion e none change spells =
-      let own = subst (λ a. Spells edition a p change) e spells in
-      none edition p (subst (λ a. IsTextTree edition (part_source a p) part) e is) own.0 own.1
+      (e : EntryTree Text) → ReadsAs edition t (e ∷ []) → ⊥) →
+      (own : List (AttributeTree Text)) (change : Change) → Spells edition action own p change → ⊥
+  part_that_is_no_entry_spells_no_insertion e none own change spells =
+      let spelled = subst (λ a. Spells edition a own p change) e spells in
+      none edition p (subst (λ a. IsTextTree edition (part_source a p) part) e is) spelled.0 spelled.1
 
   module _ (t : List ℕ) (source : TextTree) (read : IsTextTree edition t source) (n : ℕ)
-      (answer : Result (String Global) EditFault) where
+      (own : List (AttributeTree Text)) (answer : Result (String Global) EditFault) where
     edit_result_of_source_is_edit_result : (change : Change) →
         IsEditResult source.edition source.text.now n change answer → IsEditResult edition t n change answer
     edit_result_of_source_is_edit_result change answers =
@@ -145,35 +159,50 @@ module _ (action : Action) (edition : Edition) (p : Text) (part : TextTree)
         ((edition : Edition) (t : List ℕ) →
         IsTextTree edition t part → ReadsAs edition t (value_message v ∷ [])) → (change : Change) →
         IsEditResult source.edition source.text.now n change answer → SetsValue change v →
-        (change : Change) × Spells edition action p change × IsEditResult edition t n change answer
+        (change : Change) × Spells edition action own p change × IsEditResult edition t n change answer
     part_that_is_value_spells_its_setting e v reads change answers sets =
         let spelled = subst (λ a. IsTextTree edition (part_source a p) part) e is in
-        let own = reads edition (part_source SetValue p) spelled in (
+        let reading = reads edition (part_source SetValue p) spelled in (
           change,
-          subst (λ a. Spells edition a p change) (sym e) (v, own, sets),
+          subst (λ a. Spells edition a own p change) (sym e) (v, reading, sets),
+          edit_result_of_source_is_edit_result change answers,
+        )
+
+    pub part_that_is_value_spells_its_attribute : (name : Bor (List ℕ)) → action ≡ SetAttribute name → (k : ℕ) →
+        k ≡ attribute_number name.now own → (v : PatternTree Text) →
+        ((edition : Edition) (t : List ℕ) → IsTextTree edition t part → ReadsAs edition t (value_message v ∷ [])) →
+        IsEditResult source.edition source.text.now n (sets_attribute k (joined_pattern v)) answer →
+        (change : Change) × Spells edition action own p change × IsEditResult edition t n change answer
+    part_that_is_value_spells_its_attribute name e k number v reads answers =
+        let spelled = subst (λ a. IsTextTree edition (part_source a p) part) e is in
+        let reading = reads edition (part_source SetValue p) spelled in
+        let change = sets_attribute k (joined_pattern v) in (
+          change,
+          subst (λ a. Spells edition a own p change) (sym e)
+              (v, reading, ap (λ m. sets_attribute m (joined_pattern v)) number),
           edit_result_of_source_is_edit_result change answers,
         )
 
     pub part_that_is_entry_spells_its_replacement : action ≡ Replace → (entry : EntryTree Text) →
         ((edition : Edition) (t : List ℕ) → IsTextTree edition t part → ReadsAs edition t (entry ∷ [])) →
-        IsEditResult source.edition source.text.now n (replaces entry) answer →
-        (change : Change) × Spells edition action p change × IsEditResult edition t n change answer
+        IsEditResult source.edition source.text.now n (replaces (joined_part entry)) answer →
+        (change : Change) × Spells edition action own p change × IsEditResult edition t n change answer
     part_that_is_entry_spells_its_replacement e entry reads answers =
-        let own = reads edition p (subst (λ a. IsTextTree edition (part_source a p) part) e is) in (
-          replaces entry,
-          subst (λ a. Spells edition a p (replaces entry)) (sym e) (entry, own, refl),
-          edit_result_of_source_is_edit_result (replaces entry) answers,
+        let reading = reads edition p (subst (λ a. IsTextTree edition (part_source a p) part) e is) in (
+          replaces (joined_part entry),
+          subst (λ a. Spells edition a own p (replaces (joined_part entry))) (sym e) (entry, reading, refl),
+          edit_result_of_source_is_edit_result (replaces (joined_part entry)) answers,
         )
 
     pub part_that_is_entry_spells_its_insertion : action ≡ Insert → (entry : EntryTree Text) →
         ((edition : Edition) (t : List ℕ) → IsTextTree edition t part → ReadsAs edition t (entry ∷ [])) →
-        IsEditResult source.edition source.text.now n (inserts entry) answer →
-        (change : Change) × Spells edition action p change × IsEditResult edition t n change answer
+        IsEditResult source.edition source.text.now n (inserts (joined_part entry)) answer →
+        (change : Change) × Spells edition action own p change × IsEditResult edition t n change answer
     part_that_is_entry_spells_its_insertion e entry reads answers =
-        let own = reads edition p (subst (λ a. IsTextTree edition (part_source a p) part) e is) in (
-          inserts entry,
-          subst (λ a. Spells edition a p (inserts entry)) (sym e) (entry, own, refl),
-          edit_result_of_source_is_edit_result (inserts entry) answers,
+        let reading = reads edition p (subst (λ a. IsTextTree edition (part_source a p) part) e is) in (
+          inserts (joined_part entry),
+          subst (λ a. Spells edition a own p (inserts (joined_part entry))) (sym e) (entry, reading, refl),
+          edit_result_of_source_is_edit_result (inserts (joined_part entry)) answers,
         )
 
 -- where the edit is made, by the tree that was read

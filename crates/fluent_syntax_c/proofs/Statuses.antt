@@ -1,20 +1,32 @@
 -- Statuses and their numbers, and what calls leave by them.
-use Rattle.std.proofs.Common.{◌≡◌, ◌==◌, ℕ, List, Result, Ok, Err, IfOk, IsOkAnd, cond, refl, sym, ap, ◌∙◌}
+use Rattle.std.proofs.Common.{◌≡◌, ◌==◌, ℕ, List, Option, Some, None, Result, Ok, Err, IfOk, IsOkAnd, cond}
+use Rattle.std.proofs.Common.{refl, sym, ap, ◌∙◌}
 use Rattle.std.proofs.Common.{subst, inl, inr}
 use Rattle.std.specs.Global.{Global}
 use Rattle.std.specs.Prelude.{◌↔◌, ◌⊎◌, IfErr, Vec}
+use Rattle.std.specs.List.{find}
+use Rattle.fluent_syntax_writer.specs.SingleRule.{every_rule}
+use Rattle.fluent_syntax_writer.specs.declared.canonical.rules.Rule.{Rule}
+use Rattle.fluent_syntax_writer.specs.declared.canonical.rules.Rule.TheVariants as rule
 use Rattle.ftl.specs.declared.outcome.Outcome.{Outcome}
 use Rattle.ftl.specs.declared.outcome.Outcome.TheVariants as outcome
 use Rattle.fluent_syntax_c.specs.declared.status.Refusal.{Refusal}
 use Rattle.fluent_syntax_c.specs.declared.status.Refusal.TheVariants.{Argument, Input, Memory, Depth, Tree}
 use Rattle.fluent_syntax_c.specs.declared.status.EditRefusal.{EditRefusal}
 use Rattle.fluent_syntax_c.specs.declared.status.EditRefusal.TheVariants.{NotFound, NotOneEntry, ReadsOtherwise}
+use Rattle.fluent_syntax_c.specs.declared.status.EditRefusal.TheVariants.{NoValue, PartHasErrors, NotCanonical}
 use Rattle.fluent_syntax_c.specs.declared.status.Status.{Status}
 use Rattle.fluent_syntax_c.specs.declared.status.Status.TheVariants.{Clean, SyntaxErrors, TooSmall, Refused, NotEdited}
 use Rattle.fluent_syntax_c.specs.Status.{EndsAs, edit_refusal_number, refusal_number, status_number}
 use Rattle.fluent_syntax_c.specs.Arguments.{IsNoEdition}
 use Rattle.fluent_syntax_c.specs.Output.{LeavesOutput}
 use Rattle.fluent_syntax_c.specs.Rows.{IsCallResult, Gives}
+use Rattle.fluent_syntax_c.specs.Rules.{rule_number}
+
+-- that a rule is broken, if there is one
+abbrev rule_status : Option Rule → Status
+rule_status None = Clean
+rule_status (Some broken) = NotEdited (NotCanonical broken)
 
 -- the status of a number
 abbrev status_of_number : ℕ → Status
@@ -22,7 +34,9 @@ status_of_number n =
     cond (n == 0) Clean (cond (n == 1) SyntaxErrors (cond (n == 2) (Refused Argument)
     (cond (n == 3) (Refused Input) (cond (n == 4) (Refused Memory) (cond (n == 5) TooSmall
     (cond (n == 6) (Refused Depth) (cond (n == 7) (Refused Tree) (cond (n == 8) (NotEdited NotFound)
-    (cond (n == 9) (NotEdited NotOneEntry) (NotEdited ReadsOtherwise))))))))))
+    (cond (n == 9) (NotEdited NotOneEntry) (cond (n == 10) (NotEdited ReadsOtherwise)
+    (cond (n == 11) (NotEdited NoValue) (cond (n == 12) (NotEdited PartHasErrors)
+    (rule_status (find (λ broken. rule_number broken == n) every_rule))))))))))))))
 
 number_reads_back : (status : Status) → status_of_number (status_number status) ≡ status
 number_reads_back Clean = refl
@@ -36,6 +50,37 @@ number_reads_back (Refused Tree) = refl
 number_reads_back (NotEdited NotFound) = refl
 number_reads_back (NotEdited NotOneEntry) = refl
 number_reads_back (NotEdited ReadsOtherwise) = refl
+number_reads_back (NotEdited NoValue) = refl
+number_reads_back (NotEdited PartHasErrors) = refl
+number_reads_back (NotEdited (NotCanonical rule.Junk)) = refl
+number_reads_back (NotEdited (NotCanonical rule.EmptyMessage)) = refl
+number_reads_back (NotEdited (NotCanonical rule.LfInComment)) = refl
+number_reads_back (NotEdited (NotCanonical rule.EmptyPattern)) = refl
+number_reads_back (NotEdited (NotCanonical rule.EmptyText)) = refl
+number_reads_back (NotEdited (NotCanonical rule.BraceInText)) = refl
+number_reads_back (NotEdited (NotCanonical rule.CrBeforeLf)) = refl
+number_reads_back (NotEdited (NotCanonical rule.LfWithinText)) = refl
+number_reads_back (NotEdited (NotCanonical rule.TextAfterText)) = refl
+number_reads_back (NotEdited (NotCanonical rule.BlankFirstText)) = refl
+number_reads_back (NotEdited (NotCanonical rule.LeadingSpace)) = refl
+number_reads_back (NotEdited (NotCanonical rule.BlankEnd)) = refl
+number_reads_back (NotEdited (NotCanonical rule.LineOfSpaces)) = refl
+number_reads_back (NotEdited (NotCanonical rule.MarkedLine)) = refl
+number_reads_back (NotEdited (NotCanonical rule.ForbiddenSelector)) = refl
+number_reads_back (NotEdited (NotCanonical rule.SecondDefault)) = refl
+number_reads_back (NotEdited (NotCanonical rule.TermAttribute)) = refl
+number_reads_back (NotEdited (NotCanonical rule.ForbiddenCallee)) = refl
+number_reads_back (NotEdited (NotCanonical rule.ForbiddenArgument)) = refl
+number_reads_back (NotEdited (NotCanonical rule.RepeatedArgument)) = refl
+number_reads_back (NotEdited (NotCanonical rule.MisspelledString)) = refl
+number_reads_back (NotEdited (NotCanonical rule.MisspelledNumber)) = refl
+number_reads_back (NotEdited (NotCanonical rule.MisspelledName)) = refl
+number_reads_back (NotEdited (NotCanonical rule.EmptyComment)) = refl
+number_reads_back (NotEdited (NotCanonical rule.BlankCommentLine)) = refl
+number_reads_back (NotEdited (NotCanonical rule.HiddenMark)) = refl
+number_reads_back (NotEdited (NotCanonical rule.CommonIndent)) = refl
+number_reads_back (NotEdited (NotCanonical rule.SpacesOnBlankLine)) = refl
+number_reads_back (NotEdited (NotCanonical rule.NoDefault)) = refl
 
 -- no two statuses have one number
 status_number_is_injective : (a b : Status) → status_number a ≡ status_number b → a ≡ b

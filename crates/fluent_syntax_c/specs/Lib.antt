@@ -18,3 +18,5 @@ pub mod Findings
 pub mod Comparison
 pub mod Edits
 pub mod Canonical
+pub mod Rules
+pub mod StatusNames

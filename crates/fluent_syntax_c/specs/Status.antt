@@ -1,9 +1,11 @@
 -- The numbers of statuses.
 use Rattle.std.specs.Prelude.{◌≡◌, ℕ}
+use Rattle.fluent_syntax_c.specs.Rules.{rule_number}
 use Rattle.fluent_syntax_c.specs.declared.status.Refusal.{Refusal}
 use Rattle.fluent_syntax_c.specs.declared.status.Refusal.TheVariants.{Argument, Input, Memory, Depth, Tree}
 use Rattle.fluent_syntax_c.specs.declared.status.EditRefusal.{EditRefusal}
 use Rattle.fluent_syntax_c.specs.declared.status.EditRefusal.TheVariants.{NotFound, NotOneEntry, ReadsOtherwise}
+use Rattle.fluent_syntax_c.specs.declared.status.EditRefusal.TheVariants.{NoValue, PartHasErrors, NotCanonical}
 use Rattle.fluent_syntax_c.specs.declared.status.Status.{Status}
 use Rattle.fluent_syntax_c.specs.declared.status.Status.TheVariants.{Clean, SyntaxErrors, TooSmall, Refused, NotEdited}
 
@@ -18,6 +20,9 @@ abbrev pub edit_refusal_number : EditRefusal → ℕ
 edit_refusal_number NotFound = 8
 edit_refusal_number NotOneEntry = 9
 edit_refusal_number ReadsOtherwise = 10
+edit_refusal_number NoValue = 11
+edit_refusal_number PartHasErrors = 12
+edit_refusal_number (NotCanonical rule) = rule_number rule
 
 abbrev pub status_number : Status → ℕ
 status_number Clean = 0

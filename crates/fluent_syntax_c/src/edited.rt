@@ -1,38 +1,43 @@
 //! A text with one entry changed.
 ghost use Rattle.std.specs.Prelude.{◌≡◌, ◌∷◌, [], List, ℕ, map, Some, None, Err, IfErr, IfOk, IfSome, IfNone};
 ghost use Rattle.std.specs.Prelude.{string_bytes, true};
-ghost use Rattle.fluent_syntax_tree.specs.Entry.{EntryTree};
+ghost use Rattle.fluent_syntax_tree.specs.Entry.{AttributeTree, EntryTree};
 ghost use Rattle.fluent_syntax_tree.specs.Tree.{PatternTree};
-ghost use Rattle.fluent_syntax_tree.specs.View.{entry_view, pattern_view, resource_view};
+ghost use Rattle.fluent_syntax_tree.specs.View.{attribute_view, entry_view, pattern_view, resource_view};
 ghost use Rattle.fluent_syntax_tree.specs.declared.edition.Edition.{Edition as ByEdition};
 ghost use Rattle.fluent_syntax_grammar.specs.RoundTrip.{ReadsAs};
 ghost use Rattle.fluent_syntax_edits.specs.Changes.{Change};
 ghost use Rattle.fluent_syntax_edits.specs.Edits.{IsEditResult};
-ghost use Rattle.fluent_syntax_c.specs.Edits.{IsTextTree, Spells, first_entry_named, has_entry_name, part_source};
-ghost use Rattle.fluent_syntax_c.specs.Edits.{place_of};
-ghost use Rattle.fluent_syntax_c.specs.Edits.{value_message};
+ghost use Rattle.fluent_syntax_c.specs.Edits.{IsTextTree, Spells, attribute_number, attributes_at, first_entry_named};
+ghost use Rattle.fluent_syntax_c.specs.Edits.{has_entry_name, part_source, place_of, value_message};
 
 use crate::text_trees::TextTree;
-use fluent_syntax::ast::{Entry, Pattern, Resource};
-use fluent_syntax_edits::{EditFault, insert, remove, replace, set_value};
+use fluent_syntax::ast::{Attribute, Entry, Pattern, Resource};
+use fluent_syntax_edits::{EditFault, insert, remove, replace, set_attribute, set_value};
 use ftl::Outcome;
 use std::alloc::{AllocError, Global};
 
 /// What is done at an entry.
 #[derive(Clone, Copy)]
-pub enum Action {
+pub enum Action<'a> {
     SetValue,
+    /// The value of the first attribute of that name.
+    SetAttribute(&'a [u8]),
     Replace,
     Insert,
     Remove,
 }
 
 /// What is read of the part that is new.
-pub(crate) fn part_source(alloc: Global, action: Action, part: &str) -> Result<String, AllocError>
-    ensures { IfOk result (λ text. string_bytes text ≡ part_source action part.now) }
+pub(crate) fn part_source(
+    alloc: Global,
+    action: Action<'_>,
+    part: &str,
+) -> Result<String, AllocError>
+    ensures { IfOk result (λ text. string_bytes text ≡ part_source action.entry part.now) }
 {
     match action {
-        Action::SetValue => {
+        Action::SetValue | Action::SetAttribute(_) => {
             let mut text = String::from_str(alloc, "a =")?;
             text.push_str(part)?;
             Ok(text)
@@ -71,13 +76,38 @@ fn first_entry_named(tree: &Resource<&str>, name: &str) -> Option<usize>
 }
 
 /// Where the edit is made: the number of an entry, or that after the last.
-pub(crate) fn place_of(action: Action, name: &str, tree: &Resource<&str>) -> Option<usize>
-    ensures { result ≡ place_of action name.now (map (entry_view (λ text. text.now)) tree.now.body.items) }
+pub(crate) fn place_of(action: Action<'_>, name: &str, tree: &Resource<&str>) -> Option<usize>
+    ensures { result ≡ place_of action.entry name.now (map (entry_view (λ text. text.now)) tree.now.body.items) }
 {
     match action {
         Action::Insert if name.is_empty() => Some(tree.body.len()),
         _ => first_entry_named(tree, name),
     }
+}
+
+/// The number of the first attribute of that name of the entry of that number; where there is none, how many
+/// attributes that entry has.
+fn attribute_number(tree: &Resource<&str>, index: usize, name: &[u8]) -> usize
+    ensures { result ≡ attribute_number name.now
+        (attributes_at index (map (entry_view (λ text. text.now)) tree.now.body.items)) }
+{
+    match tree.body.get(index) {
+        Some(Entry::Message(message)) => number_named(&message.attributes, name),
+        Some(Entry::Term(term)) => number_named(&term.attributes, name),
+        _ => 0,
+    }
+}
+
+/// The same, of these attributes.
+fn number_named(attributes: &[Attribute<&str>], name: &[u8]) -> usize
+    ensures { result ≡ attribute_number name.now (map (attribute_view (λ text. text.now)) attributes.now) }
+{
+    for (number, attribute) in attributes.iter().enumerate() {
+        if attribute.id.name.as_bytes() == name {
+            return number;
+        }
+    }
+    attributes.len()
 }
 
 /// The only entry, if there is one alone.
@@ -138,19 +168,25 @@ pub(crate) fn edited_source(
     alloc: Global,
     source: &TextTree<'_>,
     index: usize,
-    action: Action,
+    action: Action<'_>,
     part: &TextTree<'_>,
 ) -> Option<Result<String, EditFault>>
     ensures some { (edition : ByEdition) (t p : List ℕ) → IsTextTree edition t source.now →
-        IsTextTree edition (part_source action p) part.now →
-        IfSome result (λ made. (change : Change) × Spells edition action p change
+        IsTextTree edition (part_source action.entry p) part.now →
+        IfSome result (λ made. (change : Change)
+        × Spells edition action.entry (attributes_at index (resource_view (λ text. text.now) source.now.tree)) p change
         × IsEditResult edition t index change made) }
-    ensures none { (edition : ByEdition) (p : List ℕ) → IsTextTree edition (part_source action p) part.now →
-        IfNone result ((change : Change) → Spells edition action p change → ⊥) }
+    ensures none { (edition : ByEdition) (p : List ℕ) → IsTextTree edition (part_source action.entry p) part.now →
+        IfNone result ((own : List (AttributeTree (List ℕ))) (change : Change) →
+        Spells edition action.entry own p change → ⊥) }
 {
     let (text, edition) = (source.text, source.edition);
     match action {
         Action::SetValue => Some(set_value(alloc, text, edition, index, one_value(part)?)),
+        Action::SetAttribute(name) => {
+            let number = attribute_number(&source.tree, index, name);
+            Some(set_attribute(alloc, text, edition, index, number, one_value(part)?))
+        }
         Action::Replace => Some(replace(alloc, text, edition, index, one_entry(part)?)),
         Action::Insert => Some(insert(alloc, text, edition, index, one_entry(part)?)),
         Action::Remove => Some(remove(alloc, text, edition, index)),

@@ -24,8 +24,9 @@ use std::alloc::Global;
 /// more bytes than `out`: `needed` says how many, and `out` is as it was. Otherwise `needed` is 0 and `out` as it was:
 /// 2 where no edition has the number, 3 where the input, the name or the value is not UTF-8, 4 where a growth was
 /// refused, 6 where placeables and argument lists of the input or the value nest more than `nesting` deep; 8 where no
-/// message and no term has the name, or it has no value, 9 where the value is not one value, 10 where the new text
-/// would be read otherwise than as the input with that value.
+/// message and no term has the name, 11 where it has no value, 12 where the value has syntax errors, and 9 where it is
+/// not one value. Where the new text would be read otherwise than as the input with that value it returns the number of
+/// the first rule of canonical trees that the value breaks, which is above 100, or 10 where it breaks none.
 #[unsafe(no_mangle)]
 pub extern "C" fn ftl_set_value(
     alloc: Global,
@@ -49,6 +50,28 @@ pub extern "C" fn ftl_set_value(
         name,
         value,
     );
+    give_edited(made, out, needed)
+}
+
+/// Writes the input with another value for the first attribute of that name of the first message or term of the name;
+/// returns what `ftl_set_value` does, and 11 where there is no such attribute.
+#[unsafe(no_mangle)]
+pub extern "C" fn ftl_set_attribute(
+    alloc: Global,
+    edition: u32,
+    nesting: usize,
+    input: &[u8],
+    name: &[u8],
+    attribute: &[u8],
+    value: &[u8],
+    out: &mut [u8],
+    needed: &mut usize,
+) -> u32
+    ensures gives { GivesEdit edition input.now name.now (Action.SetAttribute attribute.entry) value.now nesting out.old
+        out.new needed.new result }
+{
+    let action = Action::SetAttribute(attribute);
+    let made = edited_bytes(alloc, action, edition, nesting, input, name, value);
     give_edited(made, out, needed)
 }
 
@@ -113,7 +136,7 @@ pub extern "C" fn ftl_remove(
 /// The bytes of the input with the edit made.
 fn edited_bytes(
     alloc: Global,
-    action: Action,
+    action: Action<'_>,
     edition: u32,
     nesting: usize,
     input: &[u8],
@@ -121,17 +144,18 @@ fn edited_bytes(
     part: &[u8],
 ) -> Result<Result<(Vec<u8>, Outcome), EditRefusal>, Refusal>
     ensures edited { IfOk result (λ answer. IfOk answer (λ given.
-        IsEdited edition input.now name.now action part.now given.0.items given.1)) }
-    ensures not_edited { IfOk result (λ answer. IfErr answer (IsNotEdited edition input.now name.now action part.now)) }
+        IsEdited edition input.now name.now action.entry part.now given.0.items given.1)) }
+    ensures not_edited { IfOk result (λ answer. IfErr answer
+        (IsNotEdited edition input.now name.now action.entry part.now)) }
     ensures argument { (result ≡ Err Refusal.Argument) ↔ IsNoEdition edition }
     ensures input { ¬ (IsNoEdition edition) →
         ((result ≡ Err Refusal.Input) ↔ ¬ (IsUtf8 input.now × IsUtf8 name.now × IsUtf8 part.now)) }
     ensures deep { result ≡ Err Refusal.Depth →
-        (nesting < length input.now) ⊎ (nesting < length (part_source action part.now)) }
+        (nesting < length input.now) ⊎ (nesting < length (part_source action.entry part.now)) }
     ensures deeper { result ≡ Err Refusal.Depth → EditionReadsDeeper edition input.now nesting
-        ⊎ EditionReadsDeeper edition (part_source action part.now) nesting }
+        ⊎ EditionReadsDeeper edition (part_source action.entry part.now) nesting }
     ensures shallow { IfOk result (λ answer. EditionReadsDeeper edition input.now nesting
-        ⊎ EditionReadsDeeper edition (part_source action part.now) nesting → ⊥) }
+        ⊎ EditionReadsDeeper edition (part_source action.entry part.now) nesting → ⊥) }
     ensures tree { result ≢ Err Refusal.Tree }
 {
     if edition_of(edition).is_none() {
@@ -156,15 +180,15 @@ fn edited_text(
     alloc: Global,
     source: &TextTree<'_>,
     name: &str,
-    action: Action,
+    action: Action<'_>,
     part: &TextTree<'_>,
 ) -> Result<Result<(Vec<u8>, Outcome), EditRefusal>, Refusal>
     ensures edited { (edition : ByEdition) (t p : List ℕ) → IsTextTree edition t source.now →
-        IsTextTree edition (part_source action p) part.now → IfOk result (λ answer. IfOk answer (λ given.
-        IsEdited (edition_number edition) t name.now action p given.0.items given.1)) }
+        IsTextTree edition (part_source action.entry p) part.now → IfOk result (λ answer. IfOk answer (λ given.
+        IsEdited (edition_number edition) t name.now action.entry p given.0.items given.1)) }
     ensures not_edited { (edition : ByEdition) (t p : List ℕ) → IsTextTree edition t source.now →
-        IsTextTree edition (part_source action p) part.now → IfOk result (λ answer. IfErr answer
-        (IsNotEdited (edition_number edition) t name.now action p)) }
+        IsTextTree edition (part_source action.entry p) part.now → IfOk result (λ answer. IfErr answer
+        (IsNotEdited (edition_number edition) t name.now action.entry p)) }
     ensures memory { IfErr result (λ refusal. refusal ≡ Refusal.Memory) }
 {
     match place_of(action, name, &source.tree) {
@@ -174,7 +198,10 @@ fn edited_text(
                 Some(refusal) => Ok(Err(refusal)),
                 None => Err(Refusal::Memory),
             },
-            None => Ok(Err(EditRefusal::NotOneEntry)),
+            None => match part.outcome {
+                Outcome::Clean => Ok(Err(EditRefusal::NotOneEntry)),
+                Outcome::SyntaxErrors => Ok(Err(EditRefusal::PartHasErrors)),
+            },
         },
         None => Ok(Err(EditRefusal::NotFound)),
     }
@@ -185,10 +212,10 @@ fn edit_refusal(fault: EditFault) -> Option<EditRefusal>
     ensures { result ≡ edit_refusal fault }
 {
     match fault {
-        EditFault::NoEntry | EditFault::IsJunk(_) | EditFault::NoValue => {
-            Some(EditRefusal::NotFound)
-        }
-        EditFault::NotCanonical(_) | EditFault::ReadsOtherwise => Some(EditRefusal::ReadsOtherwise),
+        EditFault::NoEntry | EditFault::IsJunk(_) => Some(EditRefusal::NotFound),
+        EditFault::NoValue => Some(EditRefusal::NoValue),
+        EditFault::NotCanonical(rule) => Some(EditRefusal::NotCanonical(rule)),
+        EditFault::ReadsOtherwise => Some(EditRefusal::ReadsOtherwise),
         EditFault::Memory => None,
     }
 }

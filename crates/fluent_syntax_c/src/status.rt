@@ -2,6 +2,9 @@
 ghost use Rattle.std.specs.Prelude.{◌≡◌};
 ghost use Rattle.fluent_syntax_c.specs.Status.{edit_refusal_number, status_number, refusal_number};
 
+use crate::rules::rule_number;
+use fluent_syntax::laws::Rule;
+
 /// How a call ended: `enum ftl_status` of `include/fluent.h`.
 #[derive(Clone, Copy)]
 pub enum Status {
@@ -35,12 +38,18 @@ pub enum Refusal {
 /// Why an edit is not made.
 #[derive(Clone, Copy)]
 pub enum EditRefusal {
-    /// The text has no such entry, or that has no value.
+    /// The text has no such entry.
     NotFound,
     /// What is new is not exactly one entry, or one value.
     NotOneEntry,
     /// The new text would be read otherwise than as the text with the edit made.
     ReadsOtherwise,
+    /// The entry has no value, or no such attribute.
+    NoValue,
+    /// What is new has syntax errors.
+    PartHasErrors,
+    /// The new text would be read otherwise, and what is new breaks this rule of canonical trees first.
+    NotCanonical(Rule),
 }
 
 impl Status {
@@ -80,6 +89,9 @@ impl EditRefusal {
             EditRefusal::NotFound => 8,
             EditRefusal::NotOneEntry => 9,
             EditRefusal::ReadsOtherwise => 10,
+            EditRefusal::NoValue => 11,
+            EditRefusal::PartHasErrors => 12,
+            EditRefusal::NotCanonical(rule) => rule_number(rule),
         }
     }
 }

@@ -1,11 +1,13 @@
 -- IsEditResult of edits.
-use Rattle.std.proofs.Common.{◌≡◌, ◌⊎◌, inl, inr, ℕ, List, Result, Ok, Err, String, subst}
+use Rattle.std.proofs.Common.{◌≡◌, ◌⊎◌, ◌<◌, ◌+◌, inl, inr, ℕ, List, Result, Ok, Err, String, subst}
+use Rattle.std.proofs.Common.{Bool, true, false, nat_lt, refl, arith}
+use Rattle.std.proofs.lemmas.Bool.Decides.{nat_tests}
 use Rattle.std.specs.Prelude.{IsErrAnd}
 use Rattle.std.specs.Global.{Global}
 use Rattle.fluent_syntax_tree.specs.declared.edition.Edition.{Edition}
 use Rattle.fluent_syntax_tree.specs.declared.spans.Span.{Span}
-use Rattle.fluent_syntax_edits.specs.Changes.{Change, refusal}
-use Rattle.fluent_syntax_edits.specs.Edits.{IsEditResult, ReadsChanged, new_text, no_memory, no_range, read_otherwise}
+use Rattle.fluent_syntax_edits.specs.Changes.{Change, attempts, refusal}
+use Rattle.fluent_syntax_edits.specs.Edits.{IsEditResult, IsRead, no_memory, no_range, read_otherwise}
 use Rattle.fluent_syntax_edits.specs.EntryPlaces.{RangeOf}
 use Rattle.fluent_syntax_edits.specs.declared.fault.EditFault.{EditFault}
 use Rattle.fluent_syntax_edits.specs.declared.fault.EditFault.TheVariants.{Memory}
@@ -28,9 +30,17 @@ module _ (edition : Edition) (t : List ℕ) (n : ℕ) (change : Change) where
   found_range_is_range_of_change s (inl e) = cc
   found_range_is_range_of_change s (inr x) = x
 
-  -- what was made is not read so
-  pub refusal_is_edit_result : (s : Span) (made : List ℕ) (fault : EditFault) → RangeOf edition t n change (Ok s) →
-      made ≡ new_text edition t n change s → (ReadsChanged edition t n change s made → ⊥) →
-      fault ≡ refusal edition change → IsEditResult edition t n change (Err fault)
-  refusal_is_edit_result s made fault x bytes otherwise e =
-      rw e (read_otherwise s x (subst (λ u. ReadsChanged edition t n change s u → ⊥) bytes otherwise))
+  -- none of the texts that are tried is read so
+  pub no_attempt_is_read : (s : Span) (fault : EditFault) → RangeOf edition t n change (Ok s) →
+      ((k : ℕ) → k < attempts change → ¬ (IsRead edition t n change k s)) → fault ≡ refusal edition change →
+      IsEditResult edition t n change (Err fault)
+  no_attempt_is_read s fault x otherwise e = rw e (read_otherwise s x otherwise)
+
+-- what holds of none below a number, nor of it, holds of none below the next
+pub none_below_next : (P : ℕ → Type 0) (k : ℕ) → ((j : ℕ) → j < k → ¬ (P j)) → ¬ (P k) →
+    (j : ℕ) → j < k + 1 → ¬ (P j)
+none_below_next P k below here j l p = go (nat_lt j k) refl
+  where
+    go : (less : Bool) → nat_lt j k ≡ less → ⊥
+    go true e = below j (grind (arith, nat_tests)) p
+    go false e = let same : j ≡ k = grind (arith, nat_tests) in here (subst P same p)

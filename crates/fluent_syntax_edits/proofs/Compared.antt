@@ -1,5 +1,5 @@
 -- What two readings say of the text that has changed.
-use Rattle.std.proofs.Common.{◌≡◌, ◌↔◌, ℕ, ◌+◌, List, [], ◌∷◌, length, map, Some, option_map, String, string_bytes}
+use Rattle.std.proofs.Common.{◌≡◌, ◌↔◌, ℕ, List, [], ◌∷◌, map, Some, option_map, String, string_bytes}
 use Rattle.std.proofs.Common.{refl, sym, ◌∙◌, ap}
 use Rattle.std.specs.Global.{Global}
 use Rattle.fluent_syntax_tree.specs.View.{resource_view}
@@ -12,7 +12,7 @@ use Rattle.fluent_syntax_grammar.specs.RoundTrip.{tree_of}
 use Rattle.fluent_syntax_grammar.specs.Tiling.{Fault, Tile, Tiling}
 use Rattle.fluent_syntax_grammar.proofs.OneTiling.{tile_of_text_is_one, tiled_is_unique}
 use Rattle.fluent_syntax_parser.specs.Faults.{fault_of}
-use Rattle.fluent_syntax_edits.specs.Changes.{Change, tree_after, replacement_text}
+use Rattle.fluent_syntax_edits.specs.Changes.{Change, tree_after}
 use Rattle.fluent_syntax_edits.specs.Edits.{ReadAs, ReadsChanged}
 use Rattle.fluent_syntax_edits.specs.Errors.{moved_fault}
 
@@ -36,9 +36,9 @@ tiling_is_unique : (edition : Edition) (t : List ℕ) (tiles others : List Tile)
     Tiling edition t others → tiles ≡ others
 tiling_is_unique edition t tiles others a b = tiled_is_unique t _ (tile_of_text_is_one edition t) 0 tiles others a b
 
-module _ (edition : Edition) (t u : List ℕ) (n : ℕ) (change : Change) (s : Span) where
+module _ (edition : Edition) (t u : List ℕ) (n : ℕ) (change : Change) (s : Span) (to : ℕ) where
   abbrev moved : Fault → Fault
-  moved = moved_fault s (s.start + length (replacement_text change t s.end))
+  moved = moved_fault s to
 
   module _ (old new : Resource (String Global)) (errors others : List ParserError) (a : ReadAs edition t old errors)
       (b : ReadAs edition u new others) where
@@ -48,7 +48,7 @@ module _ (edition : Edition) (t u : List ℕ) (n : ℕ) (change : Change) (s : S
         (resource_view (λ s. string_bytes s) new ≡ tree_after change n (resource_view (λ s. string_bytes s) old))
         × (map fault_of others ≡ map (option_map moved) (map fault_of errors))
 
-    pub compared : IsChanged ↔ ReadsChanged edition t n change s u
+    pub compared : IsChanged ↔ ReadsChanged edition t n change s to u
     compared = (
       (λ so. record {
         tiles = a.tiles;

@@ -2,11 +2,12 @@
 use Rattle.std.specs.Prelude.{ℕ, zero, suc, ◌+◌, ◌-◌, ◌==◌, ◌||◌, List, [], ◌∷◌, ◌++◌, drop, length, replicate}
 use Rattle.std.specs.Prelude.{Option, Some, None, Bool, false, slice_get, string_bytes, if◌then◌else◌}
 use Rattle.std.specs.List.{insert, remove}
-use Rattle.fluent_syntax_tree.specs.Entry.{AttributeTree, BodyTree, EntryTree, message, term}
+use Rattle.fluent_syntax_tree.specs.Entry.{AttributeTree, BodyTree, EntryTree, message, term, comment, junk}
 use Rattle.fluent_syntax_tree.specs.Tree.{PatternTree}
 use Rattle.fluent_syntax_tree.specs.View.{entry_view, pattern_view}
 use Rattle.fluent_syntax_tree.specs.declared.edition.Edition.{Edition}
 use Rattle.fluent_syntax_grammar.specs.Bytes.{cr, lf, space}
+use Rattle.fluent_syntax_grammar.specs.Joined.{joined_message, joined_term}
 use Rattle.fluent_syntax_grammar.specs.Written.{Text, written}
 use Rattle.fluent_syntax_writer.specs.Uncanonical.{broken_rule}
 use Rattle.fluent_syntax_writer.specs.declared.canonical.rules.Rule.{Rule}
@@ -32,6 +33,15 @@ change_of (edit.Replace e) = replaces (entry_view (λ s. string_bytes s) e)
 change_of (edit.Insert e) = inserts (entry_view (λ s. string_bytes s) e)
 change_of edit.Remove = removes
 change_of (edit.Set target v) = sets target (pattern_view (λ s. string_bytes s) v)
+
+-- ---- what is new
+
+-- The entry with its patterns joined: so an LF that was read of a CRLF ends the text before it, as it will be read.
+abbrev pub joined_part : EntryTree Text → EntryTree Text
+joined_part (message m) = message (joined_message m)
+joined_part (term m) = term (joined_term m)
+joined_part (comment level content) = comment level content
+joined_part (junk content) = junk content
 
 -- ---- the tree
 
@@ -115,6 +125,18 @@ replacement_text (replaces e) t end = with_blank_lines t end (entry_text e)
 replacement_text (inserts e) t end = entry_text e
 replacement_text removes t end = []
 replacement_text (sets target v) t end = with_blank_lines t end (pattern_text target v)
+
+-- the same after so many line ends
+abbrev pub after_line_ends : ℕ → Change → List ℕ → (end : ℕ) → Text
+after_line_ends k change t end = replicate k lf ++ replacement_text change t end
+
+-- With how many numbers of line ends, from 0 on, the new text is tried: an entry that is inserted may take one to end
+-- the line before it, and one as a blank line after a comment.
+abbrev pub attempts : Change → ℕ
+attempts (replaces e) = 1
+attempts (inserts e) = 3
+attempts removes = 1
+attempts (sets target v) = 1
 
 -- ---- why the new text would be read otherwise
 

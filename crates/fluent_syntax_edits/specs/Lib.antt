@@ -3,3 +3,4 @@ pub mod Edits
 pub mod Errors
 pub mod Numbers
 pub mod EntryPlaces
+pub mod AttributeChanges

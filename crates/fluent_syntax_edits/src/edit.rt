@@ -1,9 +1,10 @@
 //! What is asked, and what is written for it.
-ghost use Rattle.std.specs.Prelude.{◌≡◌, ◌≤◌, ◌∷◌, [], length, IfOk, string_bytes};
-ghost use Rattle.fluent_syntax_edits.specs.Changes.{change_of, replacement_text, entry_text, pattern_text};
+ghost use Rattle.std.specs.Prelude.{◌≡◌, ◌≤◌, ◌∷◌, [], ◌++◌, length, replicate, IfOk, string_bytes};
+ghost use Rattle.fluent_syntax_edits.specs.Changes.{attempts, change_of, replacement_text, entry_text, pattern_text};
 ghost use Rattle.fluent_syntax_edits.specs.Changes.{scratch_message, refusal};
 ghost use Rattle.fluent_syntax_edits.specs.Changes.{before_pattern, unless_broken, is_blank, line_ends_before};
 ghost use Rattle.fluent_syntax_edits.specs.Changes.{with_blank_lines};
+ghost use Rattle.fluent_syntax_grammar.specs.Bytes.{lf};
 ghost use Rattle.fluent_syntax_writer.specs.Uncanonical.{broken_rule};
 ghost use Rattle.fluent_syntax_tree.specs.View.{entry_view, pattern_view};
 
@@ -127,6 +128,16 @@ pub(crate) fn replacement_text(
     }
 }
 
+/// With how many numbers of line ends before what is new, from 0 on, the new text is tried.
+pub(crate) fn attempts(edit: &Edit) -> usize
+    ensures { result ≡ attempts (change_of edit.now) }
+{
+    match edit {
+        Edit::Insert(_) => 3,
+        Edit::Replace(_) | Edit::Remove | Edit::Set(_, _) => 1,
+    }
+}
+
 /// Why the new text is read otherwise, if it is, as far as it is known of what is new.
 fn unless_broken(alloc: Global, edition: Edition, entry: &Entry<String>) -> EditFault
     ensures { result ≡ unless_broken (broken_rule edition (entry_view (λ s. string_bytes s) entry.now)) }
@@ -183,11 +194,30 @@ pub(crate) fn with_blank_lines(
     requires { place ≤ length source.now }
     ensures { IfOk result (λ made. string_bytes made ≡ with_blank_lines source.now place (string_bytes text)) }
 {
-    let mut made = text;
     let there = line_ends_before(source, place);
-    let own = line_ends_before(made.as_bytes(), made.len());
-    for _line in 0..there.saturating_sub(own) {
+    let own = line_ends_before(text.as_bytes(), text.len());
+    with_line_ends(text, there.saturating_sub(own))
+}
+
+/// The text with so many line ends after it.
+pub(crate) fn with_line_ends(text: String, count: usize) -> Result<String, AllocError>
+    ensures { IfOk result (λ made. string_bytes made ≡ string_bytes text ++ replicate count lf) }
+{
+    let mut made = text;
+    for _line in 0..count {
         made.push_str("\n")?;
     }
     Ok(made)
+}
+
+/// A copy of the edit.
+pub(crate) fn copied(alloc: Global, edit: &Edit) -> Result<Edit, AllocError>
+    ensures { IfOk result (λ copy. change_of copy ≡ change_of edit.now) }
+{
+    match edit {
+        Edit::Replace(entry) => Ok(Edit::Replace(entry.try_clone(alloc)?)),
+        Edit::Insert(entry) => Ok(Edit::Insert(entry.try_clone(alloc)?)),
+        Edit::Remove => Ok(Edit::Remove),
+        Edit::Set(target, value) => Ok(Edit::Set(*target, value.try_clone(alloc)?)),
+    }
 }

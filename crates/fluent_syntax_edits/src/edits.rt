@@ -1,51 +1,45 @@
-//! The edits.
-ghost use Rattle.std.specs.Prelude.{◌≡◌, ◌⊎◌, ◌++◌, Err, drop, take, IfOk, string_bytes};
-ghost use Rattle.fluent_syntax_edits.specs.Changes.{change_of, inserts, removes, replaces, sets};
-ghost use Rattle.fluent_syntax_edits.specs.Edits.{IsEditResult};
+//! The edits. An entry or a pattern that is new is joined first, so what was read of a text with CRLF is taken.
+ghost use Rattle.std.specs.Prelude.{◌≡◌, ◌⊎◌, ◌++◌, Err, drop, take, IfNone, IfOk, IfSome, string_bytes};
+ghost use Rattle.fluent_syntax_edits.specs.Changes.{change_of, inserts, joined_part, removes, replaces, sets};
+ghost use Rattle.fluent_syntax_edits.specs.Edits.{IsEditResult, IsRead, new_text};
 ghost use Rattle.fluent_syntax_edits.specs.declared.edited_ranges.ValueTarget.TheVariants.{Attribute, Value};
+ghost use Rattle.fluent_syntax_grammar.specs.Joined.{joined_pattern};
 ghost use Rattle.fluent_syntax_tree.specs.View.{entry_view, pattern_view};
 ghost use Rattle.std.specs.Str.{IsCharBoundary};
 
-use crate::edit::{Edit, refusal, replacement_text};
+use crate::edit::{Edit, attempts, refusal, replacement_text, with_line_ends};
 use crate::edited_ranges::{ValueTarget, range_of};
 use crate::fault::EditFault;
 use crate::reading::{Shift, reads_changed};
-use fluent_syntax_tree::ast::{Entry, Identifier, Pattern, Term};
-use fluent_syntax_tree::copied::entries;
+use fluent_syntax_tree::ast::{Entry, Identifier, Pattern, Resource, Term};
 use fluent_syntax_tree::edition::Edition;
 use fluent_syntax_tree::slice::Slice;
 use fluent_syntax_tree::spans::Span;
-use fluent_syntax_tree::texts::CopyTexts;
+use fluent_syntax_writer::joined::joined;
 use std::alloc::{AllocError, Global};
-use std::marker::PhantomData;
 
-/// Each text as one of its own.
-#[derive(Drop)]
-struct OwnTexts<'s>(PhantomData<&'s ()>);
-
-impl<'s, S: Slice<'s>> CopyTexts<S, String> for OwnTexts<'s> {
-    ghost can = { λ _ _. Unit {0} };
-
-    ghost source = { λ _ text. S.text text };
-
-    ghost made = { λ text. string_bytes text };
-
-    fn copy(&self, alloc: Global, text: &S) -> Result<String, AllocError> {
-        String::from_str(alloc, text.as_str())
+/// The entry with texts of its own, and with its patterns joined.
+fn own_entry<'s, S: Slice<'s>>(alloc: Global, entry: &Entry<S>) -> Result<Entry<String>, AllocError>
+    ensures { IfOk result (λ own. entry_view string_bytes own ≡ joined_part (entry_view S.text entry.now)) }
+{
+    if let Entry::Junk { content } = entry {
+        let content = String::from_str(alloc, content.as_str())?;
+        return Ok(Entry::Junk { content });
+    }
+    let mut body = Vec::new(alloc);
+    body.push(entry.try_clone(alloc)?)?;
+    let mut tree = joined(alloc, &Resource { body })?;
+    match tree.body.pop() {
+        Some(own) => Ok(own),
+        // every entry but junk is there
+        None => Err(AllocError),
     }
 }
 
-/// The entry with texts of its own.
-fn own_entry<'s, S: Slice<'s>>(alloc: Global, entry: &Entry<S>) -> Result<Entry<String>, AllocError>
-    ensures { IfOk result (λ own. entry_view (λ s. string_bytes s) own ≡ entry_view S.text entry.now) }
-{
-    entries::entry(&OwnTexts(PhantomData), alloc, entry)
-}
-
-/// The pattern with texts of its own.
+/// The pattern with texts of its own, and joined.
 fn own_pattern(alloc: Global, value: &Pattern<&str>) -> Result<Pattern<String>, AllocError>
     ensures { IfOk result (λ own.
-        pattern_view (λ s. string_bytes s) own ≡ pattern_view (λ text. text.now) value.now) }
+        pattern_view string_bytes own ≡ joined_pattern (pattern_view (λ text. text.now) value.now)) }
 {
     let holder = Entry::Term(Term {
         id: Identifier { name: "a" },
@@ -84,25 +78,54 @@ fn edited_text(
     source: &str,
     edition: Edition,
     index: usize,
-    edit: Edit,
+    edit: &Edit,
 ) -> Result<String, EditFault>
-    ensures { IsEditResult edition source.now index (change_of edit) result }
+    ensures { IsEditResult edition source.now index (change_of edit.now) result }
 {
-    let replaced = range_of(alloc, source, edition, index, &edit)?;
+    let replaced = range_of(alloc, source, edition, index, edit)?;
     let cuts = source.is_char_boundary(replaced.start) && source.is_char_boundary(replaced.end);
     if !cuts {
         // entries and values begin and end between characters
         return Err(EditFault::Memory);
     }
-    let text = replacement_text(alloc, source.as_bytes(), replaced.end, &edit)?;
-    let refusal = refusal(alloc, edition, &edit)?;
+    let refusal = refusal(alloc, edition, edit)?;
+    for line_ends in 0..attempts(edit) {
+        let found = attempt(alloc, source, edition, index, edit, replaced, line_ends)?;
+        if let Some(made) = found {
+            return Ok(made);
+        }
+    }
+    Err(refusal)
+}
+
+/// The source with the edit made in the stretch, after so many line ends, if it is read so.
+fn attempt(
+    alloc: Global,
+    source: &str,
+    edition: Edition,
+    index: usize,
+    edit: &Edit,
+    replaced: Span,
+    line_ends: usize,
+) -> Result<Option<String>, AllocError>
+    requires start { IsCharBoundary source.now replaced.start }
+    requires end { IsCharBoundary source.now replaced.end }
+    ensures some { IfOk result (λ found. IfSome found (λ made.
+        (string_bytes made ≡ new_text edition source.now index (change_of edit.now) line_ends replaced)
+        × IsRead edition source.now index (change_of edit.now) line_ends replaced)) }
+    ensures none { IfOk result (λ found. IfNone found
+        (¬ (IsRead edition source.now index (change_of edit.now) line_ends replaced))) }
+{
+    let mut text = with_line_ends(String::new(alloc), line_ends)?;
+    let new = replacement_text(alloc, source.as_bytes(), replaced.end, edit)?;
+    text.push_str(new.as_str())?;
     let made = spliced_text(alloc, source, replaced, text.as_str())?;
     let to = replaced.start + text.len();
     let shift = Shift { replaced, to };
     if reads_changed(alloc, source, &made, edition, index, edit, shift)? {
-        Ok(made)
+        Ok(Some(made))
     } else {
-        Err(refusal)
+        Ok(None)
     }
 }
 
@@ -115,14 +138,15 @@ pub fn replace<'s, S: Slice<'s>>(
     index: usize,
     entry: &Entry<S>,
 ) -> Result<String, EditFault>
-    ensures { IsEditResult edition source.now index (replaces (entry_view S.text entry.now)) result }
+    ensures { IsEditResult edition source.now index (replaces (joined_part (entry_view S.text entry.now))) result }
 {
     let entry = own_entry(alloc, entry)?;
-    edited_text(alloc, source, edition, index, Edit::Replace(entry))
+    edited_text(alloc, source, edition, index, &Edit::Replace(entry))
 }
 
 /// The source with the entry before the one of that number, counted from 0 as in the tree, and before the comment that
-/// is attached to that one. With the number after the last it is at the end of the source.
+/// is attached to that one. With the number after the last it is at the end of the source. Before it come a line end or
+/// two where it would be read otherwise without them.
 pub fn insert<'s, S: Slice<'s>>(
     alloc: Global,
     source: &str,
@@ -130,10 +154,10 @@ pub fn insert<'s, S: Slice<'s>>(
     index: usize,
     entry: &Entry<S>,
 ) -> Result<String, EditFault>
-    ensures { IsEditResult edition source.now index (inserts (entry_view S.text entry.now)) result }
+    ensures { IsEditResult edition source.now index (inserts (joined_part (entry_view S.text entry.now))) result }
 {
     let entry = own_entry(alloc, entry)?;
-    edited_text(alloc, source, edition, index, Edit::Insert(entry))
+    edited_text(alloc, source, edition, index, &Edit::Insert(entry))
 }
 
 /// The source without the entry of that number, counted from 0 as in the tree, the comment that is attached to it and
@@ -146,7 +170,7 @@ pub fn remove(
 ) -> Result<String, EditFault>
     ensures { IsEditResult edition source.now index removes result }
 {
-    edited_text(alloc, source, edition, index, Edit::Remove)
+    edited_text(alloc, source, edition, index, &Edit::Remove)
 }
 
 /// The source with the pattern in place of the value of the message or the term of that number, counted from 0 as in
@@ -158,7 +182,8 @@ pub fn set_value(
     index: usize,
     value: &Pattern<&str>,
 ) -> Result<String, EditFault>
-    ensures { IsEditResult edition source.now index (sets Value (pattern_view (λ text. text.now) value.now)) result }
+    ensures { let v = joined_pattern (pattern_view (λ text. text.now) value.now) in
+        IsEditResult edition source.now index (sets Value v) result }
 {
     let value = own_pattern(alloc, value)?;
     edited_text(
@@ -166,7 +191,7 @@ pub fn set_value(
         source,
         edition,
         index,
-        Edit::Set(ValueTarget::Value, value),
+        &Edit::Set(ValueTarget::Value, value),
     )
 }
 
@@ -180,10 +205,10 @@ pub fn set_attribute(
     attribute: usize,
     value: &Pattern<&str>,
 ) -> Result<String, EditFault>
-    ensures { let v = pattern_view (λ text. text.now) value.now in
+    ensures { let v = joined_pattern (pattern_view (λ text. text.now) value.now) in
         IsEditResult edition source.now index (sets (Attribute attribute) v) result }
 {
     let value = own_pattern(alloc, value)?;
     let target = ValueTarget::Attribute(attribute);
-    edited_text(alloc, source, edition, index, Edit::Set(target, value))
+    edited_text(alloc, source, edition, index, &Edit::Set(target, value))
 }

@@ -1,13 +1,13 @@
 //! Texts that are read and compared.
-ghost use Rattle.std.specs.Prelude.{◌≡◌, ◌+◌, ◌↔◌, length, string_bytes, IfOk, IsTrue, map, option_map};
-ghost use Rattle.fluent_syntax_edits.specs.Changes.{change_of, replacement_text};
+ghost use Rattle.std.specs.Prelude.{◌≡◌, ◌↔◌, string_bytes, IfOk, IsTrue, map, option_map};
+ghost use Rattle.fluent_syntax_edits.specs.Changes.{change_of};
 ghost use Rattle.fluent_syntax_edits.specs.Edits.{ReadAs, ReadsChanged};
 ghost use Rattle.fluent_syntax_edits.specs.Errors.{moved_fault, moved_place};
 ghost use Rattle.fluent_syntax_parser.specs.Faults.{fault_of};
 ghost use Rattle.fluent_syntax_tree.specs.Kind.{kind_of};
 
 use crate::apply_edit::apply;
-use crate::edit::Edit;
+use crate::edit::{Edit, copied};
 use fluent_syntax_parser::fault::ParseFault;
 use fluent_syntax_parser::options::{Comments, Options};
 use fluent_syntax_parser::parse_texts;
@@ -114,17 +114,15 @@ pub(crate) fn reads_changed(
     made: &String,
     edition: Edition,
     index: usize,
-    edit: Edit,
+    edit: &Edit,
     shift: Shift,
 ) -> Result<bool, AllocError>
-    requires { shift.to ≡ shift.replaced.start + length
-        (replacement_text (change_of edit) source.now shift.replaced.end) }
     ensures { IfOk result (λ so. IsTrue so
-        ↔ ReadsChanged edition source.now index (change_of edit) shift.replaced (string_bytes made.now)) }
+        ↔ ReadsChanged edition source.now index (change_of edit.now) shift.replaced shift.to (string_bytes made.now)) }
 {
     let source = String::from_str(alloc, source)?;
     let (mut tree, errors) = read(alloc, &source, edition)?;
     let (new_tree, new_errors) = read(alloc, made, edition)?;
-    apply(edit, &mut tree.body, index)?;
+    apply(copied(alloc, edit)?, &mut tree.body, index)?;
     Ok(same_texts(&tree, &new_tree) && are_moved(shift, &errors, &new_errors))
 }

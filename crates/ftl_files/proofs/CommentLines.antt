@@ -11,7 +11,8 @@ use Rattle.ftl_files.specs.CommentRules.{IsLastLine, is_comment_line, line_words
 abbrev is_lf : ℕ → Bool
 is_lf byte = byte == 10
 
-parts_have_first : (bytes : List ℕ) → (first : List ℕ) × (parts : List (List ℕ)) × (slice_split is_lf bytes ≡ first ∷ parts)
+parts_have_first : (bytes : List ℕ) →
+    (first : List ℕ) × (parts : List (List ℕ)) × (slice_split is_lf bytes ≡ first ∷ parts)
 parts_have_first [] = ([], [], refl)
 parts_have_first (byte ∷ bytes) =
     let rest = parts_have_first bytes in

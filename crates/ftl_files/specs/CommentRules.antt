@@ -1,6 +1,7 @@
 -- What the comments of entries say is not reported.
-use Rattle.std.specs.Prelude.{◌≡◌, ◌⊎◌, All, ℕ, Bool, true, false, ◌==◌, ◌&&◌, ◌||◌, not, nat_le, nat_eq, max, List, [], ◌∷◌, ◌++◌}
-use Rattle.std.specs.Prelude.{Option, None, Some, codes, drop, if◌then◌else◌, length, map, reverse, take}
+use Rattle.std.specs.Prelude.{◌≡◌, ◌⊎◌, All, ℕ, Bool, true, false, ◌==◌, ◌&&◌, ◌||◌, not, nat_le, nat_eq, max}
+use Rattle.std.specs.Prelude.{List, [], ◌∷◌, ◌++◌, Option, None, Some, codes, drop, if◌then◌else◌, length, map}
+use Rattle.std.specs.Prelude.{reverse, take}
 use Rattle.std.specs.List.{filter_map, list_any, slice_split, starts_with}
 use Rattle.fluent_syntax_names.specs.Mentions.{Mentions}
 use Rattle.fluent_syntax_names.specs.MissingParts.{is_entry_part}

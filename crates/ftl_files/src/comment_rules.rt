@@ -3,8 +3,8 @@ ghost use Rattle.std.specs.Prelude.{◌≡◌, ◌++◌, ◌∷◌, ℕ, [], All
 ghost use Rattle.std.specs.List.{slice_split};
 ghost use Rattle.std.specs.List.Sorted.{IsNonDecreasingBy};
 ghost use Rattle.ftl_files.specs.CommentRules.{IsLastLine, IsRead, comment_words, definition_start, definition_starts};
-ghost use Rattle.ftl_files.specs.CommentRules.{is_comment_line, is_left_out, is_part_left_out, is_separator, latest, line_words};
-ghost use Rattle.ftl_files.specs.CommentRules.{rest_covers, start_of, word_covers};
+ghost use Rattle.ftl_files.specs.CommentRules.{is_comment_line, is_left_out, is_part_left_out, is_separator, latest};
+ghost use Rattle.ftl_files.specs.CommentRules.{line_words, rest_covers, start_of, word_covers};
 
 use crate::kinds::ReportedKind;
 use crate::patterns::bytes_match;

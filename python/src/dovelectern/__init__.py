@@ -14,19 +14,20 @@
     '# said at the door\\nhello= Good day\\n'
 """
 from . import ast
-from ._calls import check, check_file, compare, format, format_file, is_canonical, lint, parse, parse_file, serialize
-from ._calls import serialize_entry
-from ._edits import insert, remove, replace, set_value
+from ._calls import check, check_file, compare, first_uncanonical, format, format_file, is_canonical, lint, parse
+from ._calls import parse_file, serialize, serialize_entry
+from ._edits import insert, remove, replace, set_attribute, set_value
 from ._library import NESTING, Text
-from .errors import Cause, Error, Finding, FluentError, NoTree, NotFound, NotOneEntry, Place, ReadsOtherwise
-from .errors import SyntaxErrors, TooDeep
-from .visitor import Transformer, Visitor, joined
+from .errors import Cause, Error, Finding, FluentError, NotFound, NotOneEntry, NoTree, NoValue, PartHasErrors, Place
+from .errors import ReadsOtherwise, SyntaxErrors, TooDeep, Uncanonical
+from .visitor import Transformer, Visitor, joined, split
 
 __version__ = "2.4.0"
 
 __all__ = [
-    "Cause", "Error", "Finding", "FluentError", "NESTING", "NoTree", "NotFound", "NotOneEntry", "Place",
-    "ReadsOtherwise", "SyntaxErrors", "Text", "TooDeep", "Transformer", "Visitor", "ast", "check", "check_file",
-    "compare", "format", "format_file", "insert", "is_canonical", "joined", "lint", "parse", "parse_file", "remove",
-    "replace", "serialize", "serialize_entry", "set_value",
+    "Cause", "Error", "Finding", "FluentError", "NESTING", "NoTree", "NoValue", "NotFound", "NotOneEntry",
+    "PartHasErrors", "Place", "ReadsOtherwise", "SyntaxErrors", "Text", "TooDeep", "Transformer", "Uncanonical",
+    "Visitor", "ast", "check", "check_file", "compare", "first_uncanonical", "format", "format_file", "insert",
+    "is_canonical", "joined", "lint", "parse", "parse_file", "remove", "replace", "serialize", "serialize_entry",
+    "set_attribute", "set_value", "split",
 ]

@@ -4,11 +4,12 @@ from functools import lru_cache
 from itertools import chain
 from typing import Callable, Dict, Iterable, Iterator, List, Optional, Tuple, TypeVar, Union
 
-from . import _findings, _library, _places, _reading, _reading_back, _writing, ast
+from . import _findings, _library, _places, _reading, _reading_back, _spans, _writing, ast
 from ._collection import no_collection
 from ._library import NESTING, Text
 from .ast import Span
-from .errors import Cause, Error, Finding, NoTree, ReadsOtherwise, SyntaxErrors, TooDeep
+from .errors import Cause, Error, Finding, NoTree, ReadsOtherwise, SyntaxErrors, TooDeep, Uncanonical
+from .visitor import split
 
 Answer = TypeVar("Answer")
 Path = Union[str, "os.PathLike[str]", bytes, "os.PathLike[bytes]"]
@@ -44,13 +45,14 @@ def _annotate(tree: ast.Resource, errors: List[Error], with_spans: bool) -> None
 
 
 def _place(tree: ast.Resource, data: bytes, nesting: int) -> None:
-    """Tells of the name and the value of each message, term and attribute where they stand; the library gives both in
-    the order of the names."""
+    """Sets the spans of entries and comments, and of the name and the value of each message, term and attribute; the
+    library gives both in the order of the names."""
     found = [*_library.names(data, 1, nesting), *_library.values(data, 1, nesting)]
     if not data.isascii():
         at = _places.in_characters(data, chain(*found))
         found = [[*map(at.__getitem__, places)] for places in found]
-    names, values = map(Span, *found[:2]), map(Span, *found[2:])
+    names, stretches, values = map(Span, *found[:2]), map(Span, *found[2:4]), map(Span, *found[4:])
+    _spans.place_entries(tree, data.decode(), stretches)
     for node in _named(tree):
         node.id.span = next(names)
         value = next(values)
@@ -74,11 +76,20 @@ def serialize(resource: ast.Resource, *, strict: bool = True) -> str:
     `TypeError` where a field holds something else than the classes of `dovelectern.ast` say, with the way to it.
     `TooDeep`: the tree nests more deeply than the library takes trees, which is some 20 selects in one another.
     """
+    return _serialized(resource, strict, None)
+
+
+def _serialized(resource: ast.Resource, strict: bool, alone: Optional[str]) -> str:
+    """The text of a tree, and what its only entry is called where that is not a part of a tree."""
     written, text = _by_json(resource, lambda written: _library.answer(_library.FROM_JSON, written, NESTING)[0])
     if strict:
         changed = _reading_back.first_changed(written, _library.answer(_library.JSON, text.encode(), NESTING)[0])
         if changed is not None:
-            raise ReadsOtherwise(f"body[{changed}] would be read otherwise than as it is")
+            entry = ast.Resource([resource.body[changed]])
+            # successive texts count as one, and a rule that only says so is none that changes the entry
+            broken = first_uncanonical(split(entry)) or first_uncanonical(entry)
+            what = alone or f"body[{changed}]"
+            raise ReadsOtherwise(f"{what} would be read otherwise than as it is", broken and broken.rule)
     return text
 
 
@@ -98,7 +109,13 @@ def _by_json(resource: ast.Resource, call: Callable[[bytes], Answer]) -> Tuple[s
 
 def serialize_entry(entry: ast.AnyEntry, *, strict: bool = True) -> str:
     """The text of one entry, as `serialize` writes it alone."""
-    return serialize(ast.Resource([entry]), strict=strict)
+    return _serialized(ast.Resource([entry]), strict, "the entry")
+
+
+def value_text(value: ast.Pattern) -> str:
+    """The text of a value, as it is after a `=`."""
+    entry = ast.Message(ast.Identifier("a"), value)
+    return _serialized(ast.Resource([entry]), True, "the value")[len("a ="):]
 
 
 def is_canonical(resource: ast.Resource, *, edition: int = 1) -> bool:
@@ -108,6 +125,15 @@ def is_canonical(resource: ast.Resource, *, edition: int = 1) -> bool:
     """
     number = as_edition(edition)
     return _by_json(resource, lambda written: _library.is_canonical(written, number))[1]
+
+
+def first_uncanonical(resource: ast.Resource, *, edition: int = 1) -> Optional[Uncanonical]:
+    """The first entry of the tree that is not canonical, and the rule that it breaks; `None` where all are. It raises
+    what `is_canonical` raises.
+    """
+    number = as_edition(edition)
+    _, found = _by_json(resource, lambda written: _library.first_uncanonical(written, number))
+    return Uncanonical(*found) if found is not None else None
 
 
 def check(text: Text, *, edition: int = 1, nesting: int = NESTING) -> List[Error]:
@@ -194,7 +220,7 @@ class _File:
 def as_edition(edition: int) -> int:
     if edition not in (1, 2):
         raise ValueError(f"an edition is 1 or 2, not {edition!r}")
-    return edition
+    return int(edition)
 
 
 _kind_name = lru_cache(maxsize=None)(_library.kind_name)

@@ -3,9 +3,9 @@ import ctypes
 import operator
 import os
 import struct
-from typing import Any, List, NamedTuple, Sequence, Tuple, Union
+from typing import Any, List, NamedTuple, Optional, Sequence, Tuple, Union
 
-from .errors import NoTree, NotFound, NotOneEntry, ReadsOtherwise, TooDeep
+from .errors import NotFound, NotOneEntry, NoTree, NoValue, PartHasErrors, ReadsOtherwise, TooDeep
 
 Text = Union[str, bytes, bytearray, memoryview]
 
@@ -16,7 +16,8 @@ GREATEST_NESTING = 1000
 
 FORMAT, RUNTIME, JSON, FORMAT_TWO, FROM_JSON = 1, 2, 3, 5, 6
 _CLEAN, _SYNTAX_ERRORS, _WRONG_ARGUMENT, _NOT_UTF8, _NO_MEMORY, _TOO_SMALL, _TOO_DEEP, _NO_TREE = range(8)
-_NOT_FOUND, _NOT_ONE_ENTRY, _READS_OTHERWISE = range(8, 11)
+_NOT_FOUND, _NOT_ONE_ENTRY, _READS_OTHERWISE, _NO_VALUE, _PART_HAS_ERRORS = range(8, 13)
+_FIRST_RULE = 101
 
 
 class ErrorRow(NamedTuple):
@@ -92,15 +93,17 @@ def _load() -> ctypes.CDLL:
         ("ftl_values", [size, *text]), ("ftl_error_messages", [size, *text]),
         ("ftl_causes", [size, *text]), ("ftl_cause_messages", [size, *text]),
         ("ftl_findings", [size, ctypes.POINTER(_Text), size]), ("ftl_comparison", [size, *text, *text]),
-        ("ftl_kind_name", []), ("ftl_finding_kind_name", []), ("ftl_remove", [size, *text, *text]),
+        ("ftl_kind_name", []), ("ftl_finding_kind_name", []), ("ftl_status_name", []),
+        ("ftl_remove", [size, *text, *text]), ("ftl_set_attribute", [size, *text, *text, *text, *text]),
         *((name, [size, *text, *text, *text]) for name in ("ftl_set_value", "ftl_replace", "ftl_insert")),
     ]
     for name, read in calls:
         call = getattr(library, name)
         call.restype = number
         call.argtypes = [number, *read, *written]
-    library.ftl_is_canonical.restype = number
-    library.ftl_is_canonical.argtypes = [number, *text, ctypes.POINTER(size)]
+    for call in (library.ftl_is_canonical, library.ftl_first_uncanonical):
+        call.restype = number
+        call.argtypes = [number, *text, ctypes.POINTER(size)]
     return library
 
 
@@ -161,19 +164,25 @@ def _refusal(name: str, number: int, nesting: int, texts: Sequence[bytes], statu
     if status == _NO_MEMORY:
         return MemoryError("the library was refused memory")
     if status == _TOO_DEEP:
-        if number == FROM_JSON and name in ("ftl_answer", "ftl_is_canonical"):
+        if number == FROM_JSON and name in ("ftl_answer", "ftl_is_canonical", "ftl_first_uncanonical"):
             return TooDeep("the tree nests more deeply than the library takes trees")
         which = "the text" if len(texts) == 1 else "one of the texts"
         return TooDeep(f"{which} nests placeables and argument lists more than {nesting} deep")
     if status == _NO_TREE:
         return NoTree("this spells no tree")
     if status == _NOT_FOUND:
-        what = "message or term with a value" if name == "ftl_set_value" else "message or term"
-        return NotFound(f"no {what} is named {texts[1].decode()}")
+        return NotFound(f"no message or term is named {texts[1].decode()}")
+    if status == _NO_VALUE:
+        return NoValue(f"no message or term with {'such an attribute' if name == 'ftl_set_attribute' else 'a value'} is "
+                       f"named {texts[1].decode()}")
+    what = "value" if name in ("ftl_set_value", "ftl_set_attribute") else "entry"
     if status == _NOT_ONE_ENTRY:
-        return NotOneEntry(f"the {'value' if name == 'ftl_set_value' else 'entry'} is not exactly one, without errors")
-    if status == _READS_OTHERWISE:
-        return ReadsOtherwise("the new text would be read otherwise than as the text with the edit made")
+        return NotOneEntry(f"the {what} is not exactly one")
+    if status == _PART_HAS_ERRORS:
+        return PartHasErrors(f"the {what} has syntax errors")
+    if status == _READS_OTHERWISE or status >= _FIRST_RULE:
+        rule = None if status == _READS_OTHERWISE else _name("ftl_status_name", status)
+        return ReadsOtherwise("the new text would be read otherwise than as the text with the edit made", rule)
     return ValueError(f"{name} has no number {number}")
 
 
@@ -212,13 +221,17 @@ def _lines(call: str, text: bytes, edition: int, nesting: int) -> List[str]:
     return str(out, "utf-8").split("\n")[:-1]
 
 
-def names(text: bytes, edition: int, nesting: int) -> Tuple[List[int], List[int]]:
-    """Where the names of messages, terms and attributes of the text begin, in order, and where they end, in bytes."""
+def names(text: bytes, edition: int, nesting: int) -> Tuple[List[int], List[int], List[int], List[int]]:
+    """Where the names of messages, terms and attributes of the text begin, in order, and where they end, in bytes; and
+    the same of the messages and terms themselves."""
     rows, _ = _items("ftl_names", edition, nesting, [text], NAME_ROW.size, 16 + len(text) // 64)
-    # each row is as wide as so many numbers; its start and its end are the fifth and the sixth
+    # each row is as wide as so many numbers; its start and its end are the fifth and the sixth, then come its owner and
+    # the start and the end of the entry
     width = NAME_ROW.size // ctypes.sizeof(ctypes.c_size_t)
     numbers = rows.cast("N")
-    return numbers[4::width].tolist(), numbers[5::width].tolist()
+    own = [row for row, owner in enumerate(numbers[6::width]) if row == owner]
+    starts, ends = numbers[7::width], numbers[8::width]
+    return numbers[4::width].tolist(), numbers[5::width].tolist(), [starts[it] for it in own], [ends[it] for it in own]
 
 
 def values(text: bytes, edition: int, nesting: int) -> Tuple[List[int], List[int]]:
@@ -254,6 +267,17 @@ def is_canonical(json: bytes, edition: int) -> bool:
     if status != _CLEAN:
         raise _refusal("ftl_is_canonical", FROM_JSON, 0, [json], status)
     return canonical.value == 1
+
+
+def first_uncanonical(json: bytes, edition: int) -> Optional[Tuple[int, str]]:
+    """The number of the first entry that is not canonical, of the tree that the JSON spells, and the rule."""
+    entry = ctypes.c_size_t()
+    status = _library.ftl_first_uncanonical(edition, json, len(json), ctypes.byref(entry))
+    if status == _CLEAN:
+        return None
+    if status < _FIRST_RULE:
+        raise _refusal("ftl_first_uncanonical", FROM_JSON, 0, [json], status)
+    return entry.value, _name("ftl_status_name", status)
 
 
 def kind_name(kind: int) -> str:

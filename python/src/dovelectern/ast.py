@@ -13,7 +13,7 @@ from ._collection import no_collection
 Node = TypeVar("Node", bound="BaseNode")
 
 
-@dataclass
+@dataclass(unsafe_hash=True)
 class Span:
     """From `start` up to `end`."""
 
@@ -115,6 +115,16 @@ class Pattern(SyntaxNode):
 
     elements: List[PatternElement] = field(default_factory=list)
     span: Optional[Span] = _span()
+
+    @classmethod
+    def from_text(cls, text: str) -> "Pattern":
+        """The pattern of a text without placeables, with a text element for each line: line ends are LF or CRLF."""
+        return cls([*text_elements(text.replace("\r\n", "\n"))])
+
+
+def text_elements(text: str) -> List[TextElement]:
+    """A text element for each line, with its LF."""
+    return [TextElement(line) for line in re.findall(r"[^\n]*\n|[^\n]+", text)]
 
 
 _ESCAPE = re.compile(r"\\(?:([\\\"])|u([0-9a-fA-F]{4})|U([0-9a-fA-F]{6}))")

@@ -95,6 +95,19 @@ class Finding:
         return f"{before}{self.severity}[{self.kind}]: {self.message}"
 
 
+@dataclass(frozen=True)
+class Uncanonical:
+    """The first entry of a tree that is not canonical."""
+
+    entry: int
+    """Its number, from 0."""
+    rule: str
+    """The first rule that it breaks: one of 29 names, as `BraceInText`."""
+
+    def __str__(self) -> str:
+        return f"body[{self.entry}]: {self.rule}"
+
+
 class FluentError(ValueError):
     """A text or a tree that can't be taken."""
 
@@ -119,12 +132,28 @@ class NoTree(FluentError):
 
 
 class ReadsOtherwise(FluentError):
-    """The text of a tree, or of an edit, would be read as another tree."""
+    """The text of a tree, or of an edit, would be read as another tree.
+
+    `rule` names the first rule of canonical trees that what is new breaks, as `BraceInText`; `None` where it breaks
+    none.
+    """
+
+    def __init__(self, message: str, rule: Optional[str] = None) -> None:
+        self.rule = rule
+        super().__init__(message if rule is None else f"{message}: it breaks the rule {rule}")
 
 
 class NotFound(FluentError):
     """No message or term has the name, or it has no value."""
 
 
+class NoValue(NotFound):
+    """The message or term has no value, or no such attribute."""
+
+
 class NotOneEntry(FluentError):
     """What is new is not exactly one entry, or one value, without errors."""
+
+
+class PartHasErrors(NotOneEntry):
+    """What is new has syntax errors."""

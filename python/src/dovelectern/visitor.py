@@ -2,7 +2,7 @@
 from typing import Any, List
 
 from ._collection import no_collection
-from .ast import BaseNode, Pattern, PatternElement, Resource, TextElement, copied, field_names
+from .ast import BaseNode, Pattern, PatternElement, Resource, TextElement, copied, field_names, text_elements
 
 
 class Visitor:
@@ -58,6 +58,20 @@ def _join_texts(node: Any) -> None:
         else:
             elements.append(element)
     node.elements = elements
+
+
+def _split_texts(node: Any) -> None:
+    _join_texts(node)
+    if isinstance(node, Pattern):
+        node.elements = [part for it in node.elements
+                         for part in (text_elements(it.value) if isinstance(it, TextElement) else [it])]
+
+
+def split(resource: Resource) -> Resource:
+    """A copy of the tree with a text for each line, as `parse` gives it: `a\\nb` is `a\\n` and `b`."""
+    with no_collection():
+        copy: Resource = copied(resource, _split_texts)
+    return copy
 
 
 def joined(resource: Resource) -> Resource:

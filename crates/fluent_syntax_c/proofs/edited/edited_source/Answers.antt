@@ -3,6 +3,8 @@ use Rattle.fluent_syntax_c.proofs.PartsRead.{part_that_is_entry_spells_its_inser
 use Rattle.fluent_syntax_c.proofs.PartsRead.{part_that_is_no_entry_spells_no_insertion, IfNone-none}
 use Rattle.fluent_syntax_c.proofs.PartsRead.{part_that_is_entry_spells_its_replacement}
 use Rattle.fluent_syntax_c.proofs.PartsRead.{part_that_is_no_entry_spells_no_replacement}
+use Rattle.fluent_syntax_c.proofs.PartsRead.{part_that_is_value_spells_its_attribute}
+use Rattle.fluent_syntax_c.proofs.PartsRead.{part_that_is_no_value_spells_no_attribute}
 use Rattle.fluent_syntax_c.proofs.PartsRead.{part_that_is_value_spells_its_setting}
 use Rattle.fluent_syntax_c.proofs.PartsRead.{part_that_is_no_value_spells_no_change}
 use Rattle.fluent_syntax_c.proofs.edited.edited_source.Goals as goal
@@ -12,6 +14,13 @@ returns-in_err-one_value-in-SetValue-clause-none c = λ edition p is.
     IfNone-none c.from_residual.result c.from_residual.ensures
     (part_that_is_no_value_spells_no_change c.args.action edition p c.args.part.now is c.in-SetValue.is
     c.in_err-one_value-in-SetValue.ensures.none)
+
+pub returns-in_err-one_value-in-SetAttribute-clause-none : goal.returns-in_err-one_value-in-SetAttribute-clause-none
+returns-in_err-one_value-in-SetAttribute-clause-none c = λ edition p is.
+    IfNone-none c.from_residual-in_err-one_value-in-SetAttribute.result
+    c.from_residual-in_err-one_value-in-SetAttribute.ensures
+    (part_that_is_no_value_spells_no_attribute c.args.action edition p c.args.part.now is _ c.in-SetAttribute.is
+    c.in_err-one_value-in-SetAttribute.ensures.none)
 
 pub returns-in_err-one_entry-in-Replace-clause-none : goal.returns-in_err-one_entry-in-Replace-clause-none
 returns-in_err-one_entry-in-Replace-clause-none c = λ edition p is.
@@ -29,17 +38,23 @@ returns-in_err-one_entry-in-Insert-clause-none c = λ edition p is.
 pub returns-in_ok-one_value-in-SetValue-clause-some : goal.returns-in_ok-one_value-in-SetValue-clause-some
 returns-in_ok-one_value-in-SetValue-clause-some c = λ edition t p read is.
     part_that_is_value_spells_its_setting c.args.action edition p c.args.part.now is t c.args.source.now read
-    c.args.index c.set_value.result
+    c.args.index _ c.set_value.result
     c.in-SetValue.is _ c.in_ok-one_value-in-SetValue.ensures.some _ c.set_value.ensures (refl, refl)
+
+pub returns-in_ok-one_value-in-SetAttribute-clause-some : goal.returns-in_ok-one_value-in-SetAttribute-clause-some
+returns-in_ok-one_value-in-SetAttribute-clause-some c = λ edition t p read is.
+    part_that_is_value_spells_its_attribute c.args.action edition p c.args.part.now is t c.args.source.now read
+    c.args.index _ c.set_attribute.result _ c.in-SetAttribute.is _ c.attribute_number-number.ensures _
+    c.in_ok-one_value-in-SetAttribute.ensures.some c.set_attribute.ensures
 
 pub returns-in_ok-one_entry-in-Replace-clause-some : goal.returns-in_ok-one_entry-in-Replace-clause-some
 returns-in_ok-one_entry-in-Replace-clause-some c = λ edition t p read is.
     part_that_is_entry_spells_its_replacement c.args.action edition p c.args.part.now is t c.args.source.now read
-    c.args.index c.replace.result
+    c.args.index _ c.replace.result
     c.in-Replace.is _ c.in_ok-one_entry-in-Replace.ensures.some c.replace.ensures
 
 pub returns-in_ok-one_entry-in-Insert-clause-some : goal.returns-in_ok-one_entry-in-Insert-clause-some
 returns-in_ok-one_entry-in-Insert-clause-some c = λ edition t p read is.
     part_that_is_entry_spells_its_insertion c.args.action edition p c.args.part.now is t c.args.source.now read
-    c.args.index c.insert.result
+    c.args.index _ c.insert.result
     c.in-Insert.is _ c.in_ok-one_entry-in-Insert.ensures.some c.insert.ensures

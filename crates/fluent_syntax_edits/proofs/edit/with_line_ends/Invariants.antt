@@ -1,7 +1,7 @@
 use Rattle.std.proofs.Common.{◌≡◌, ◌++◌, string_bytes}
 use Rattle.std.specs.Prelude.{replicate}
 use Rattle.fluent_syntax_grammar.specs.Bytes.{lf}
-use Rattle.fluent_syntax_edits.proofs.edit.with_blank_lines.Given as goal
+use Rattle.fluent_syntax_edits.proofs.edit.with_line_ends.Given as goal
 
 abbrev pub invariant-loop-line : goal.invariant-loop-line
 invariant-loop-line l = record {
