@@ -1,6 +1,7 @@
 pub mod Changed
 pub mod CommentLines
 pub mod CommentedEntries
+pub mod FolderTables
 pub mod KindLists
 pub mod LanguageLemmas
 pub mod ListedNames

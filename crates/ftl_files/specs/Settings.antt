@@ -1,9 +1,9 @@
 -- What the document of an `ftl.toml` says.
-use Rattle.std.specs.Prelude.{◌≡◌, ◌⊎◌, ◌<◌, ◌^◌, ℕ, List, [], map, Option, Some, None, Bool, true, ◌&&◌, ◌||◌}
+use Rattle.std.specs.Prelude.{◌≡◌, ◌⊎◌, ◌<◌, ◌^◌, ℕ, List, [], ◌∷◌, map, Option, Some, None, Bool, true, ◌&&◌, ◌||◌}
 use Rattle.std.specs.Prelude.{IfSome, String, codes, false, option_map, pos, string_bytes}
 use Rattle.std.specs.declared.alloc.Global.{Global}
 use Rattle.std.specs.Str.{bytes_eq}
-use Rattle.toml.specs.Data.{Data, Members, array, get_member, integer, member, no_members, string}
+use Rattle.toml.specs.Data.{Data, Members, array, get_member, integer, member, no_members, string, table}
 use Rattle.toml.specs.View.{items_of}
 use Rattle.fluent_syntax_tree.specs.declared.edition.Edition.{Edition}
 use Rattle.ftl_files.specs.IgnoreRules.{rule_text}
@@ -15,6 +15,7 @@ use Rattle.ftl_files.specs.declared.kinds.ReportedKind.{ReportedKind}
 use Rattle.ftl_files.specs.declared.options.BlankLines.{BlankLines}
 use Rattle.ftl_files.specs.declared.options.Color.{Color}
 use Rattle.ftl_files.specs.declared.options.Output.{Output}
+use Rattle.ftl_files.specs.declared.settings.FolderRules.{FolderRules}
 use Rattle.ftl_files.specs.declared.settings.Settings.{Settings}
 
 -- keys that have a meaning
@@ -24,6 +25,7 @@ is_known key =
     || bytes_eq key (codes "deny") || bytes_eq key (codes "exclude")
     || bytes_eq key (codes "edition") || bytes_eq key (codes "output") || bytes_eq key (codes "nesting")
     || bytes_eq key (codes "color") || bytes_eq key (codes "blank-lines")
+    || bytes_eq key (codes "folders")
 
 abbrev pub are_known : Members → Bool
 are_known no_members = true
@@ -70,6 +72,29 @@ IsColor value color = value ≡ option_map (λ c. string (color_name c)) color
 abbrev pub IsBlankLines : Option Data → Option BlankLines → Type 0
 IsBlankLines value blank_lines = value ≡ option_map (λ b. string (blank_lines_name b)) blank_lines
 
+-- the one key that has a meaning in the table of a folder
+abbrev pub say_only_ignore : Members → Bool
+say_only_ignore no_members = true
+say_only_ignore (member key value members) = bytes_eq key (codes "ignore") && say_only_ignore members
+
+-- the folder has this name, and its rules are those that its table says
+abbrev pub IsFolder : (name : List ℕ) → Data → FolderRules → Type 0
+IsFolder name value rules =
+    (name ≡ string_bytes rules.folder) × (members : Members) × (value ≡ table members)
+    × (say_only_ignore members ≡ true) × IsIgnored (get_member (codes "ignore") members) rules.ignored.items
+
+-- the folders are the members, one by one
+abbrev pub AreMembers : Members → List FolderRules → Type 0
+AreMembers no_members folders = folders ≡ []
+AreMembers (member _ _ _) [] = ⊥
+AreMembers (member name value members) (folder ∷ folders) = IsFolder name value folder × AreMembers members folders
+
+-- the folders are those that have tables in the table of the key; or there is no such key
+abbrev pub AreFolders : Option Data → List FolderRules → Type 0
+AreFolders value folders =
+    ((value ≡ None) × (folders ≡ []))
+    ⊎ ((members : Members) × (value ≡ Some (table members)) × AreMembers members folders)
+
 pub record Says (document : Members) (settings : Settings) : Type 0 where
   pub known : are_known document ≡ true
   pub reference : IsReference (get_member (codes "reference") document) settings.reference
@@ -83,3 +108,4 @@ pub record Says (document : Members) (settings : Settings) : Type 0 where
   pub nesting : IsNesting (get_member (codes "nesting") document) settings.nesting
   pub color : IsColor (get_member (codes "color") document) settings.color
   pub blank_lines : IsBlankLines (get_member (codes "blank-lines") document) settings.blank_lines
+  pub folders : AreFolders (get_member (codes "folders") document) settings.folders.items

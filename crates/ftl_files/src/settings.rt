@@ -8,22 +8,21 @@ ghost use Rattle.toml.specs.Data.{Members, no_members, string};
 ghost use Rattle.toml.specs.Parse.{parse_document};
 ghost use Rattle.toml.specs.View.{table_view, view};
 ghost use Rattle.fluent_syntax_tree.specs.declared.edition.Edition.{Edition};
-ghost use Rattle.ftl_files.specs.Settings.{IsBlankLines, IsColor, IsEdition, IsExcluded, IsIgnored, IsNesting};
+ghost use Rattle.ftl_files.specs.Settings.{IsBlankLines, IsColor, IsEdition, IsExcluded, IsNesting};
 ghost use Rattle.ftl_files.specs.Settings.{IsOutput, IsReference, Says, are_known, is_known};
 ghost use Rattle.ftl_files.specs.declared.options.BlankLines.{BlankLines};
 ghost use Rattle.ftl_files.specs.declared.options.Color.{Color};
 ghost use Rattle.ftl_files.specs.declared.options.Output.{Output};
-ghost use Rattle.ftl_files.specs.IgnoreRules.{rule_text};
 ghost use Rattle.ftl_files.specs.Levels.{have_common_kind};
-ghost use Rattle.ftl_files.specs.declared.ignore_rules.IgnoreRule.{IgnoreRule};
 
-use crate::ignore_rules::{IgnoreRule, ignore_rule_of_text};
+use crate::ignore_rules::IgnoreRule;
 use crate::kinds::ReportedKind;
 use crate::levels::common_kind;
 use crate::options::{
     BlankLines, Color, Output, blank_lines_of_name, color_of_name, output_of_name,
 };
 use crate::settings_fault::SettingsFault;
+use crate::settings_folders::{folders_of, ignored_of};
 use crate::settings_kinds::kinds_of;
 use fluent_syntax_tree::edition::Edition;
 use std::alloc::{AllocError, Global};
@@ -39,6 +38,8 @@ pub struct Settings {
     pub reference: Option<String>,
     /// `ignore`: what is not reported, in the order of the text.
     pub ignored: Vec<IgnoreRule>,
+    /// `folders`: what is not reported below these folders either.
+    pub folders: Vec<FolderRules>,
     /// `warn`: the kinds that are warnings, in the order of the text.
     pub warned: Vec<ReportedKind>,
     /// `deny`: the kinds that are errors, in the order of the text. None of them is one of the others.
@@ -57,6 +58,15 @@ pub struct Settings {
     pub blank_lines: Option<BlankLines>,
 }
 
+/// What is not reported below a folder, besides what is reported nowhere in the project.
+#[derive(Debug, Drop)]
+pub struct FolderRules {
+    /// The folder, as it is spelled: its path from that of the `ftl.toml` on.
+    pub folder: String,
+    /// Its `ignore`, in the order of the text.
+    pub ignored: Vec<IgnoreRule>,
+}
+
 impl Settings {
     /// What a project says that says nothing.
     pub fn new(alloc: Global) -> Self
@@ -65,6 +75,7 @@ impl Settings {
         Settings {
             reference: None,
             ignored: Vec::new(alloc),
+            folders: Vec::new(alloc),
             warned: Vec::new(alloc),
             denied: Vec::new(alloc),
             excluded: Vec::new(alloc),
@@ -83,7 +94,8 @@ impl Settings {
 /// `Reference`, `Ignore`, `Exclude`, `Edition`, `Output`, `Nesting`, `Color`, `BlankLines`: the value of that key is of
 /// another kind, or is none of those that the key may have. `Kind`: that of `ignore` has a text that is no rule.
 /// `Kinds`, `UnknownKind`: that of `warn` or `deny` is no list of texts, or has one that names no kind. `CommonKind`:
-/// both have a kind.
+/// both have a kind. `Folders`: that of `folders` is no table of tables. `FolderKey`: one of these has a key other than
+/// `ignore`. An `ignore` in one of them is refused as that of the project is.
 pub fn settings_of(alloc: Global, text: &str) -> Result<Settings, SettingsFault>
     ensures says { IfOk result (λ settings. (document : Members)
         × (parse_document text.now ≡ Some document) × Says document settings) }
@@ -107,9 +119,11 @@ pub fn settings_of(alloc: Global, text: &str) -> Result<Settings, SettingsFault>
     let nesting = nesting_of(table.get("nesting"))?;
     let color = color_of(table.get("color"))?;
     let blank_lines = blank_lines_of(table.get("blank-lines"))?;
+    let folders = folders_of(alloc, table.get("folders"))?;
     Ok(Settings {
         reference,
         ignored,
+        folders,
         warned,
         denied,
         excluded,
@@ -169,6 +183,7 @@ fn is_known(key: &str) -> bool
             | "nesting"
             | "color"
             | "blank-lines"
+            | "folders"
     )
 }
 
@@ -183,46 +198,6 @@ fn reference_of(alloc: Global, value: Option<&Value>) -> Result<Option<String>, 
     match value {
         Value::String(path) => Ok(Some(String::from_str(alloc, path.as_str())?)),
         _ => Err(SettingsFault::Reference),
-    }
-}
-
-fn ignored_of(alloc: Global, value: Option<&Value>) -> Result<Vec<IgnoreRule>, SettingsFault>
-    ensures says { IfOk result (λ rules. IsIgnored (option_map (λ v. view v.now) value.entry) rules.items) }
-    ensures refused { IfErr result (λ fault. fault ≢ SettingsFault.Memory → (rules : List IgnoreRule) →
-        IsIgnored (option_map (λ v. view v.now) value.entry) rules → ⊥) }
-{
-    let mut rules = Vec::new(alloc);
-    let Some(value) = value else {
-        return Ok(rules);
-    };
-    let Value::Array(texts) = value else {
-        return Err(SettingsFault::Ignore);
-    };
-    for text in texts {
-        add_rule(&mut rules, rule_of(alloc, text)?)?;
-    }
-    Ok(rules)
-}
-
-fn add_rule(rules: &mut Vec<IgnoreRule>, rule: IgnoreRule) -> Result<(), AllocError>
-    ensures { OnOk result (rules.new.items ≡ rules.old.items ++ rule ∷ []) }
-{
-    rules.push(rule)?;
-    Ok(())
-}
-
-/// The rule that the value says.
-fn rule_of(alloc: Global, value: &Value) -> Result<IgnoreRule, SettingsFault>
-    ensures says { IfOk result (λ rule. view value.now ≡ string (rule_text rule)) }
-    ensures refused { IfErr result (λ fault. fault ≢ SettingsFault.Memory →
-        (rule : IgnoreRule) → view value.now ≢ string (rule_text rule)) }
-{
-    let Value::String(text) = value else {
-        return Err(SettingsFault::Ignore);
-    };
-    match ignore_rule_of_text(alloc, text.as_str())? {
-        Some(rule) => Ok(rule),
-        None => Err(SettingsFault::Kind(String::from_str(alloc, text.as_str())?)),
     }
 }
 

@@ -37,6 +37,10 @@ pub enum SettingsFault {
     Color,
     /// The value of `blank-lines` is not one of its names.
     BlankLines,
+    /// The value of `folders` is no table of tables.
+    Folders,
+    /// A key that has no meaning in the table of a folder.
+    FolderKey(String),
 }
 
 impl From<AllocError> for SettingsFault {
@@ -86,6 +90,12 @@ impl fmt::Display for SettingsFault {
             }
             SettingsFault::BlankLines => {
                 f.write_str("`blank-lines` wants \"normal\" or \"keep\"")
+            }
+            SettingsFault::Folders => {
+                f.write_str("`folders` wants a table for each folder, as [folders.\"locales/old\"]")
+            }
+            SettingsFault::FolderKey(key) => {
+                write!(f, "no setting of a folder is called `{key}`")
             }
         }
     }

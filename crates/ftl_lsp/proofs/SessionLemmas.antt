@@ -316,7 +316,7 @@ diagnostics_are_republished_if_open : (session : Session) (uri : List ℕ) (foun
     session.phase ≡ Running → session.texts uri ≡ found → IsSent (published uri found) (Some value) →
     Republishes session value
 diagnostics_are_republished_if_open session uri (Some found) value running open' sent =
-    record { runs = running; uri = uri; found = found; document_that_is_set_is_open = open'; diagnostics = sent }
+    record { runs = running; uri = uri; found = found; is_open = open'; diagnostics = sent }
 diagnostics_are_republished_if_open session uri None value running open' sent = elim sent [ ]
 
 -- what is published of a document is reported of one that is open

@@ -172,9 +172,7 @@ impl Workspace {
         let mut ignored = Vec::new(alloc);
         for folder in &self.folders {
             if folder.has(path) {
-                for rule in &folder.ignored {
-                    ignored.push(rule.clone()?)?;
-                }
+                folder.add_ignored(path, &mut ignored)?;
             }
         }
         Ok(ignored)

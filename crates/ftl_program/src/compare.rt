@@ -3,13 +3,14 @@
 use crate::colors::form_over_paths;
 use crate::counterparts::{Counterparts, counterparts_of};
 use crate::file_sets::languages_of;
+use crate::ignored::IgnoredRules;
 use crate::lint::report_no_reference;
 use crate::listed::{Named, NamedFiles, listing_at, report_note};
 use crate::messages::{WRONG_ARGS, end_run, refuse_input, report_nothing_to_compare, run_status};
 use crate::project::{Project, ProjectPaths, projects_of};
 use ftl::{RunFault, Watched};
 use ftl_args::{Compare, Options};
-use ftl_files::{Disk, Form, IgnoreRule};
+use ftl_files::{Disk, Form};
 use ftl_project::{
     CompareOptions, Pair, Presence, Share, Streams, Tally, check_summary, compare_files, note_line,
     share_json, share_line,
@@ -89,7 +90,7 @@ fn compare_in(
         }
         report_no_language(rt, project, form_over_paths(rt, options), &mut tally)?;
     }
-    let Ok(ignored) = project.ignored_with(rt, &compare.ignored) else {
+    let Ok(ignored) = IgnoredRules::new(rt.alloc(), project, &compare.ignored) else {
         return Err(RunFault::Memory);
     };
     let comparison = Comparison {
@@ -131,7 +132,7 @@ struct Comparison<'p> {
     project: &'p Project,
     options: Options,
     /// What is not reported.
-    ignored: &'p [IgnoreRule],
+    ignored: &'p IgnoredRules,
 }
 
 impl Comparison<'_> {
@@ -198,17 +199,55 @@ impl Comparison<'_> {
             Some(own) => own.files.as_slice(),
             None => &[],
         };
-        let Ok(pairs) = pairs_of(rt.alloc(), reference, own_files, other, &named.files) else {
+        let Ok(pairs) = self.pairs_of(reference, own_files, other, &named.files) else {
             return Err(RunFault::Memory);
         };
         self.compare_pairs(other, &pairs, tally)
+    }
+
+    /// The files of the reference with those of the other of the same path below, or the two files that are named; and
+    /// after them those that the other alone has. What is not reported of a pair is what the rules of the other say.
+    fn pairs_of(
+        &self,
+        reference: &str,
+        reference_files: &[String],
+        other: &str,
+        other_files: &[String],
+    ) -> Result<Vec<Pair<'_>>, AllocError> {
+        let alloc = self.rt.alloc();
+        let wanted = names_below(alloc, reference, reference_files)?;
+        let there = names_below(alloc, other, other_files)?;
+        let mut pairs = Vec::new(alloc);
+        for (file, name) in reference_files.iter().zip(&wanted) {
+            let other = path_below(alloc, other, *name)?;
+            pairs.push(Pair {
+                ignored: self.ignored.at(alloc, other.as_str())?,
+                reference: String::from_str(alloc, file.as_str())?,
+                other,
+                presence: match there.binary_search(name) {
+                    Ok(_) => Presence::Both,
+                    Err(_) => Presence::ReferenceAlone,
+                },
+            })?;
+        }
+        for (file, name) in other_files.iter().zip(&there) {
+            if wanted.binary_search(name).is_err() {
+                pairs.push(Pair {
+                    reference: path_below(alloc, reference, *name)?,
+                    other: String::from_str(alloc, file.as_str())?,
+                    presence: Presence::OtherAlone,
+                    ignored: self.ignored.at(alloc, file.as_str())?,
+                })?;
+            }
+        }
+        Ok(pairs)
     }
 
     /// Compares the pairs of one language, and reports how much of it is there.
     fn compare_pairs(
         &self,
         other: &str,
-        pairs: &[Pair],
+        pairs: &[Pair<'_>],
         tally: &mut Tally,
     ) -> Result<(), RunFault> {
         let rt = self.rt;
@@ -228,7 +267,6 @@ impl Comparison<'_> {
             self.options.reading(),
             CompareOptions {
                 form: self.form(),
-                ignored: self.ignored,
                 levels: self.project.levels(),
             },
             tally,
@@ -276,40 +314,6 @@ fn report_other_kind(
         Err(AllocError) => return Err(RunFault::Memory),
     }
     Ok(())
-}
-
-/// The files of the reference with those of the other of the same path below, or the two files that are named; and
-/// after them those that the other alone has.
-fn pairs_of(
-    alloc: Global,
-    reference: &str,
-    reference_files: &[String],
-    other: &str,
-    other_files: &[String],
-) -> Result<Vec<Pair>, AllocError> {
-    let wanted = names_below(alloc, reference, reference_files)?;
-    let there = names_below(alloc, other, other_files)?;
-    let mut pairs = Vec::new(alloc);
-    for (file, name) in reference_files.iter().zip(&wanted) {
-        pairs.push(Pair {
-            reference: String::from_str(alloc, file.as_str())?,
-            other: path_below(alloc, other, *name)?,
-            presence: match there.binary_search(name) {
-                Ok(_) => Presence::Both,
-                Err(_) => Presence::ReferenceAlone,
-            },
-        })?;
-    }
-    for (file, name) in other_files.iter().zip(&there) {
-        if wanted.binary_search(name).is_err() {
-            pairs.push(Pair {
-                reference: path_below(alloc, reference, *name)?,
-                other: String::from_str(alloc, file.as_str())?,
-                presence: Presence::OtherAlone,
-            })?;
-        }
-    }
-    Ok(pairs)
 }
 
 /// The paths of the files below the folder.

@@ -1,5 +1,6 @@
 //! Which files are searched as one set: those of one language.
 
+use crate::ignored::IgnoredRules;
 use crate::listed::listing_at;
 use crate::project::{Project, path_between};
 use fluent_syntax_names::{LANGUAGE_GROUPS, plural_categories_of};
@@ -10,15 +11,15 @@ use std::alloc::{AllocError, Global};
 
 /// Files that are searched as one set.
 #[derive(Drop)]
-pub(crate) struct FileSet {
+pub(crate) struct FileSet<'r> {
     /// The folder of their language, from the root on; empty for files of none.
     language: String,
     /// The same from the current folder on.
     pub(crate) folder: String,
-    pub(crate) files: Vec<LintFile>,
+    pub(crate) files: Vec<LintFile<'r>>,
 }
 
-impl FileSet {
+impl FileSet<'_> {
     /// The plural categories of the language, by the name of its folder; `None` where they are not known.
     pub(crate) fn categories(&self) -> Option<&'static [&'static str]> {
         let (_, name) = self.language.as_str().rsplit_once('/')?;
@@ -59,6 +60,7 @@ impl FileSet {
                 self.files.push(LintFile {
                     path,
                     is_asked: false,
+                    ignored: &[],
                 })?;
             }
         }
@@ -80,10 +82,11 @@ fn folder_from(alloc: Global, current: &str, language: &str) -> Result<String, A
 
 /// Adds each file, which is asked for, to the set of its language, which is the folder that it is in directly below the
 /// folder of languages. All files that are in none are a set of their own, and so are all without such a folder.
-pub(crate) fn add_files(
+pub(crate) fn add_files<'r>(
     alloc: Global,
-    sets: &mut Vec<FileSet>,
+    sets: &mut Vec<FileSet<'r>>,
     project: &Project,
+    ignored: &'r IgnoredRules,
     languages: Option<&str>,
     files: Vec<String>,
 ) -> Result<(), AllocError> {
@@ -92,6 +95,11 @@ pub(crate) fn add_files(
         let language = match languages {
             Some(folder) => language_or_empty(folder, path.as_str()),
             None => "",
+        };
+        let file = LintFile {
+            ignored: ignored.at(alloc, file.as_str())?,
+            path: file,
+            is_asked: true,
         };
         add_file(alloc, sets, project, language, file)?;
     }
@@ -103,17 +111,13 @@ fn language_or_empty<'p>(languages: &str, path: &'p str) -> &'p str {
     language_of(languages, path).unwrap_or("")
 }
 
-fn add_file(
+fn add_file<'r>(
     alloc: Global,
-    sets: &mut Vec<FileSet>,
+    sets: &mut Vec<FileSet<'r>>,
     project: &Project,
     language: &str,
-    path: String,
+    file: LintFile<'r>,
 ) -> Result<(), AllocError> {
-    let file = LintFile {
-        path,
-        is_asked: true,
-    };
     for set in sets.iter_mut() {
         if set.language.as_str() == language {
             set.files.push(file)?;

@@ -2,6 +2,7 @@
 
 use crate::colors::form_over_paths;
 use crate::file_sets::{FileSet, add_files, languages_of};
+use crate::ignored::IgnoredRules;
 use crate::listed::{NamedFiles, report_listing_fault};
 use crate::messages::{end_run, refuse_input, run_status};
 use crate::project::{Project, ProjectPaths, projects_of};
@@ -49,19 +50,18 @@ fn lint_project(
     tally: &mut Tally,
 ) -> Result<(), RunFault> {
     let options = lint.options.or(&project.settings);
-    let Ok(ignored) = project.ignored_with(rt, &lint.ignored) else {
+    let Ok(ignored) = IgnoredRules::new(rt.alloc(), project, &lint.ignored) else {
         return Err(RunFault::Memory);
     };
     let form = form_over_paths(rt, options);
     report_no_reference(rt, project, form, tally)?;
-    let mut sets = sets_of(rt, lint, project, paths, form, tally)?;
+    let mut sets = sets_of(rt, lint, project, &ignored, paths, form, tally)?;
     for set in sets.iter_mut() {
         set.complete(rt, project, form, tally)?;
     }
     for set in &sets {
         let lint_options = LintOptions {
             form,
-            ignored: &ignored,
             levels: project.levels(),
             set_name: set.folder.as_str(),
             categories: set.categories(),
@@ -95,7 +95,7 @@ pub(crate) fn report_no_reference(
 
 fn lint_set(
     rt: &HostRuntime,
-    set: &FileSet,
+    set: &FileSet<'_>,
     reading: Reading,
     lint_options: LintOptions<'_>,
     tally: &mut Tally,
@@ -117,14 +117,15 @@ fn lint_set(
 }
 
 /// The files that the paths name, each once, by language. What can't be listed is reported.
-fn sets_of(
+fn sets_of<'r>(
     rt: &HostRuntime,
     lint: &Lint<'_>,
     project: &Project,
+    ignored: &'r IgnoredRules,
     paths: &[&str],
     form: Form,
     tally: &mut Tally,
-) -> Result<Vec<FileSet>, RunFault> {
+) -> Result<Vec<FileSet<'r>>, RunFault> {
     let alloc = rt.alloc();
     let mut named = NamedFiles::new(rt, project, form);
     let mut sets = Vec::new(alloc);
@@ -134,7 +135,7 @@ fn sets_of(
             return Err(RunFault::Memory);
         };
         let languages = languages.as_ref().map(|folder| folder.as_str());
-        let Ok(()) = add_files(alloc, &mut sets, project, languages, files) else {
+        let Ok(()) = add_files(alloc, &mut sets, project, ignored, languages, files) else {
             return Err(RunFault::Memory);
         };
     }

@@ -7,6 +7,7 @@ mod compare;
 mod counterparts;
 mod file_sets;
 mod help;
+mod ignored;
 mod lint;
 mod listed;
 mod messages;

@@ -3,7 +3,7 @@
 use crate::messages::refuse_run;
 use ftl::RunFault;
 use ftl_files::{
-    Disk, Excluded, IgnoreRule, Levels, Settings, SettingsFault, Store, absolute_path, settings_of,
+    Disk, Excluded, Levels, Settings, SettingsFault, Store, absolute_path, settings_of,
 };
 use ftl_project::{Fault, InvalidText, note_line};
 use std::alloc::{AllocError, Global};
@@ -19,7 +19,7 @@ const WRONG_SETTINGS: u8 = 2;
 /// What the project says, and where the program runs.
 #[derive(Drop)]
 pub(crate) struct Project {
-    /// The settings; a reference is a path from the current folder on.
+    /// The settings; a reference is a path from the current folder on, the folders with rules are from the root on.
     pub(crate) settings: Settings,
     /// What is passed over in folders.
     pub(crate) excluded: Excluded,
@@ -34,19 +34,6 @@ impl Project {
             warned: &self.settings.warned,
             denied: &self.settings.denied,
         }
-    }
-
-    /// What is not reported: what the project says, and then what the words say.
-    pub(crate) fn ignored_with(
-        &self,
-        rt: &HostRuntime,
-        words: &[IgnoreRule],
-    ) -> Result<Vec<IgnoreRule>, AllocError> {
-        let mut ignored = Vec::new(rt.alloc());
-        for rule in self.settings.ignored.iter().chain(words) {
-            ignored.push(rule.clone()?)?;
-        }
-        Ok(ignored)
     }
 }
 
@@ -250,6 +237,9 @@ fn project_in(
     }
     for exclusion in words {
         excluded.add(alloc, current, *exclusion)?;
+    }
+    for rules in settings.folders.iter_mut() {
+        rules.folder = absolute_path(alloc, root.as_str(), rules.folder.as_str())?;
     }
     if let Some(path) = &settings.reference {
         if !path.starts_with('/') {

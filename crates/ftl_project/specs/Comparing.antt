@@ -26,6 +26,7 @@ use Rattle.fluent_syntax_names.specs.declared.differences.Side.{Side}
 use Rattle.fluent_syntax_names.specs.declared.differences.Side.TheVariants.{Reference, Other}
 use Rattle.ftl_project.specs.declared.fault.Fault.{Fault}
 use Rattle.ftl_project.specs.declared.fault.Fault.TheVariants.{Memory}
+use Rattle.ftl_files.specs.declared.ignore_rules.IgnoreRule.{IgnoreRule}
 use Rattle.ftl_files.specs.declared.kinds.ReportedKind.{ReportedKind}
 use Rattle.ftl_files.specs.declared.kinds.ReportedKind.TheVariants.{MissingFile, ObsoleteFile}
 use Rattle.ftl_files.specs.declared.levels.Levels.{Levels}
@@ -128,38 +129,38 @@ abbrev pub obsolete_file_message : Pair → List ℕ
 obsolete_file_message pair = codes "the reference has no file " ++ string_bytes pair.reference
 
 -- whether what this kind says of a file as a whole is reported as an error, and whether as a warning
-abbrev pub is_file_error : CompareOptions → ReportedKind → Bool
-is_file_error options kind = is_reported options.ignored.now kind [] && is_error_kind options.levels kind
+abbrev pub is_file_error : List IgnoreRule → Levels → ReportedKind → Bool
+is_file_error ignored levels kind = is_reported ignored kind [] && is_error_kind levels kind
 
-abbrev pub is_file_warning : CompareOptions → ReportedKind → Bool
-is_file_warning options kind = is_reported options.ignored.now kind [] && not (is_error_kind options.levels kind)
+abbrev pub is_file_warning : List IgnoreRule → Levels → ReportedKind → Bool
+is_file_warning ignored levels kind = is_reported ignored kind [] && not (is_error_kind levels kind)
 
 -- The other file is not there: that is all that is reported, if it is, and all of the reference is missing.
 pub record IsFileMissing (options : CompareOptions) (pair : Pair) (reference : NameIndex) (errors warnings : ℕ)
     (share : Share) (text : List ℕ) : Type 0 where
   pub report_is : IsFileReport options.form pair (codes "missing-file") (missing_file_message pair)
-      (is_reported options.ignored.now MissingFile []) text
-  pub errors_are : errors ≡ (if is_file_error options MissingFile then 1 else 0)
-  pub warnings_are : warnings ≡ (if is_file_warning options MissingFile then 1 else 0)
+      (is_reported pair.ignored.now MissingFile []) text
+  pub errors_are : errors ≡ (if is_file_error pair.ignored.now options.levels MissingFile then 1 else 0)
+  pub warnings_are : warnings ≡ (if is_file_warning pair.ignored.now options.levels MissingFile then 1 else 0)
   pub share_is : share ≡ record { wanted = entry_count reference; missing = entry_count reference }
 
 -- The reference has no such file: that is all that is reported, if it is.
 pub record IsFileObsolete (options : CompareOptions) (pair : Pair) (errors warnings : ℕ) (share : Share)
     (text : List ℕ) : Type 0 where
   pub report_is : IsFileReport options.form pair (codes "obsolete-file") (obsolete_file_message pair)
-      (is_reported options.ignored.now ObsoleteFile []) text
-  pub errors_are : errors ≡ (if is_file_error options ObsoleteFile then 1 else 0)
-  pub warnings_are : warnings ≡ (if is_file_warning options ObsoleteFile then 1 else 0)
+      (is_reported pair.ignored.now ObsoleteFile []) text
+  pub errors_are : errors ≡ (if is_file_error pair.ignored.now options.levels ObsoleteFile then 1 else 0)
+  pub warnings_are : warnings ≡ (if is_file_warning pair.ignored.now options.levels ObsoleteFile then 1 else 0)
   pub share_is : share ≡ record { wanted = 0; missing = 0 }
 
 -- what is reported of that which the reference has and the other lacks, and the other way round
-abbrev pub reported_missing : CompareOptions → (reference other : NameIndex) → List MissingPart
-reported_missing options reference other =
-    reported_parts options.ignored.now Reference reference other (all_missing_parts reference other)
+abbrev pub reported_missing : Pair → (reference other : NameIndex) → List MissingPart
+reported_missing pair reference other =
+    reported_parts pair.ignored.now Reference reference other (all_missing_parts reference other)
 
-abbrev pub reported_extra : CompareOptions → (reference other : NameIndex) → List MissingPart
-reported_extra options reference other =
-    reported_parts options.ignored.now Other other reference (all_missing_parts other reference)
+abbrev pub reported_extra : Pair → (reference other : NameIndex) → List MissingPart
+reported_extra pair reference other =
+    reported_parts pair.ignored.now Other other reference (all_missing_parts other reference)
 
 -- What the reference has and the other lacks is reported, in the order of the reference, and after it what the other
 -- and the reference lacks, in the order of the other. All that is missing counts for the share.
@@ -167,17 +168,17 @@ pub record IsPairCompared (options : CompareOptions) (pair : Pair) (reference ot
     (errors warnings : ℕ) (share : Share) (text : List ℕ) : Type 0 where
   pub missing : List ℕ
   pub reports_missing : ReportsEach (IsMissingReport options.form pair reference.text.now other.text.now)
-      (reported_missing options reference other) missing
+      (reported_missing pair reference other) missing
   pub more : List ℕ
   pub reports_extra : ReportsEach (IsExtraReport options.form pair other.text.now reference.text.now)
-      (reported_extra options reference other) more
+      (reported_extra pair reference other) more
   pub text_is : text ≡ missing ++ more
   pub errors_are : errors
-      ≡ min (errors_of options.levels Reference (reported_missing options reference other)
-      + errors_of options.levels Other (reported_extra options reference other)) (2 ^ 64 - 1)
+      ≡ min (errors_of options.levels Reference (reported_missing pair reference other)
+      + errors_of options.levels Other (reported_extra pair reference other)) (2 ^ 64 - 1)
   pub warnings_are : warnings
-      ≡ min (warnings_of options.levels Reference (reported_missing options reference other)
-      + warnings_of options.levels Other (reported_extra options reference other)) (2 ^ 64 - 1)
+      ≡ min (warnings_of options.levels Reference (reported_missing pair reference other)
+      + warnings_of options.levels Other (reported_extra pair reference other)) (2 ^ 64 - 1)
   pub share_is : share
       ≡ record { wanted = entry_count reference; missing = missing_entries (all_missing_parts reference other) }
 

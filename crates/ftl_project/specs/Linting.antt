@@ -38,11 +38,12 @@ use Rattle.ftl_project.specs.declared.tally.Tally.{Tally}
 
 -- ---- what was read
 
--- The source is the path and the bytes of the file, asked for or not as that is.
+-- The source is the path and the bytes of the file, asked for or not as that is, with its rules.
 pub record IsSource (at : List ℕ → Option (List ℕ)) (file : LintFile) (source : Source) : Type 0 where
   pub path_is : string_bytes source.path ≡ string_bytes file.path
   pub text_is : IfSome (at (string_bytes file.path)) (λ bytes. string_bytes source.text ≡ bytes)
   pub asked_is : source.is_asked ≡ file.is_asked
+  pub ignored_is : source.ignored ≡ file.ignored
 
 module _ (CallFails : Failing) (at : List ℕ → Option (List ℕ)) where
   -- A file was read; or it was not, and its fault was counted.
@@ -83,6 +84,11 @@ abbrev pub is_asked : Option Source → Bool
 is_asked None = false
 is_asked (Some source) = source.is_asked
 
+-- what is not reported of the file, if there is one
+abbrev pub ignored_in : Option Source → List IgnoreRule
+ignored_in None = []
+ignored_in (Some source) = source.ignored.now
+
 -- the name as it is shown; nothing where there is no place
 abbrev pub found_name : Option NameIndex → Option Span → List ℕ
 found_name None place = []
@@ -100,17 +106,17 @@ is_named_reported ignored name_index finding name =
     not (is_ignored ignored (kinds.Finding finding.kind) name)
     && not (is_commented name_index finding.place (kinds.Finding finding.kind) name)
 
--- whether neither leaves it out, and it is in a file that is asked for
-abbrev pub is_reported : List IgnoreRule → List Source → List NameIndex → Finding → Bool
-is_reported ignored sources name_indexes finding =
-    is_named_reported ignored (slice_get name_indexes finding.file) finding
+-- whether neither a rule of its file leaves it out nor a comment there, and it is in a file that is asked for
+abbrev pub is_reported : List Source → List NameIndex → Finding → Bool
+is_reported sources name_indexes finding =
+    is_named_reported (ignored_in (slice_get sources finding.file)) (slice_get name_indexes finding.file) finding
     (found_name (slice_get name_indexes finding.file) finding.place) && is_asked (slice_get sources finding.file)
 
--- all that is found in what the files of a language say, and is left out by no rule and no comment, in those that are
--- asked for
+-- all that is found in what the files of a language say, and is left out by no rule of its file and no comment, in
+-- those that are asked for
 abbrev pub reported_findings : LintOptions → List Source → List NameIndex → List Finding
 reported_findings options sources name_indexes =
-    filter (is_reported options.ignored.now sources name_indexes)
+    filter (is_reported sources name_indexes)
     (findings_in_language (words_of options.categories) name_indexes (others_define []))
 
 -- what the files say whose comments these are

@@ -35,7 +35,7 @@ use crate::streams::{Streams, byte_order_mark_note, report_fault};
 use crate::tally::Tally;
 use fluent_syntax_names::{MissingPart, NameIndex, Part, Side, entry_count, missing_parts};
 use ftl::{RunFault, write_all};
-use ftl_files::{CommentRules, Form, IgnoreRule, Levels, Reading, ReportedKind, Store};
+use ftl_files::{CommentRules, Form, Levels, Reading, ReportedKind, Store};
 use std::alloc::{AllocError, Global};
 use std::io::Write;
 
@@ -43,8 +43,6 @@ use std::io::Write;
 #[derive(Clone, Copy, Debug)]
 pub struct CompareOptions<'a> {
     pub form: Form,
-    /// What is not reported, nor counted.
-    pub ignored: &'a [IgnoreRule],
     /// How grave a difference is.
     pub levels: Levels<'a>,
 }
@@ -92,7 +90,7 @@ impl From<AllocError> for PairFault {
 pub fn compare_files<S: Store, O: Write, E: Write>(
     alloc: Global,
     store: &mut S,
-    pairs: &[Pair],
+    pairs: &[Pair<'_>],
     reading: Reading,
     options: CompareOptions<'_>,
     tally: &mut Tally,
@@ -135,7 +133,7 @@ impl Comparing<'_> {
     fn report_pair<S: Store, O: Write, E: Write>(
         &self,
         store: &mut S,
-        pair: &Pair,
+        pair: &Pair<'_>,
         tally: &mut Tally,
         share: &mut Share,
         unmatched: &mut UnmatchedNames,
@@ -166,7 +164,7 @@ impl Comparing<'_> {
     /// Writes what else is reported of a pair, and notes the names that it has unmatched.
     fn put_notes<O: Write, E: Write>(
         &self,
-        pair: &Pair,
+        pair: &Pair<'_>,
         compared: &PairComparison,
         unmatched: &mut UnmatchedNames,
         streams: &mut Streams<'_, O, E>,
@@ -184,7 +182,7 @@ impl Comparing<'_> {
     fn compare_pair<S: Store>(
         &self,
         store: &mut S,
-        pair: &Pair,
+        pair: &Pair<'_>,
     ) -> Result<PairComparison, PairFault>
         ensures untouched { AllUnchanged (S.bytes_at store.old) (S.bytes_at store.new) }
         ensures compared { IfOk result (λ compared. IsComparison S.fails self.now.reading self.now.options
@@ -207,7 +205,7 @@ impl Comparing<'_> {
     fn comparison_of_both<S: Store>(
         &self,
         store: &mut S,
-        pair: &Pair,
+        pair: &Pair<'_>,
     ) -> Result<PairComparison, PairFault>
         ensures untouched { AllUnchanged (S.bytes_at store.old) (S.bytes_at store.new) }
         ensures compared { IfOk result (λ compared. IsComparison S.fails self.now.reading self.now.options
@@ -225,7 +223,7 @@ impl Comparing<'_> {
     fn comparison_without_other<S: Store>(
         &self,
         store: &mut S,
-        pair: &Pair,
+        pair: &Pair<'_>,
     ) -> Result<PairComparison, PairFault>
         ensures untouched { AllUnchanged (S.bytes_at store.old) (S.bytes_at store.new) }
         ensures compared { IfOk result (λ compared. IsComparison S.fails self.now.reading self.now.options
@@ -241,7 +239,7 @@ impl Comparing<'_> {
     /// What comes of the text of a reference that has no translation.
     fn comparison_of_reference(
         &self,
-        pair: &Pair,
+        pair: &Pair<'_>,
         reference: &str,
     ) -> Result<PairComparison, PairFault>
         ensures compared { IfOk result (λ compared. (name_index : NameIndex)
@@ -259,8 +257,9 @@ impl Comparing<'_> {
             pair.reference.as_str()
         )?;
         let report_text = self.file_report(pair, kind, message)?;
-        let is_error = is_file_error(self.options, kind);
-        let is_warning = is_file_warning(self.options, kind);
+        let levels = self.options.levels;
+        let is_error = is_file_error(pair.ignored, levels, kind);
+        let is_warning = is_file_warning(pair.ignored, levels, kind);
         Ok(PairComparison {
             report_text,
             notes: String::new(self.alloc),
@@ -275,7 +274,7 @@ impl Comparing<'_> {
     }
 
     /// What comes of a pair of whose files that of the translation alone is there. It is not read.
-    fn comparison_without_reference(&self, pair: &Pair) -> Result<PairComparison, AllocError>
+    fn comparison_without_reference(&self, pair: &Pair<'_>) -> Result<PairComparison, AllocError>
         ensures { IfOk result (λ compared. IsFileObsolete self.now.options pair.now compared.errors compared.warnings
             compared.share (string_bytes compared.report_text)) }
     {
@@ -285,8 +284,9 @@ impl Comparing<'_> {
             pair.reference.as_str()
         )?;
         let report_text = self.file_report(pair, kind, message)?;
-        let is_error = is_file_error(self.options, kind);
-        let is_warning = is_file_warning(self.options, kind);
+        let levels = self.options.levels;
+        let is_error = is_file_error(pair.ignored, levels, kind);
+        let is_warning = is_file_warning(pair.ignored, levels, kind);
         Ok(PairComparison {
             report_text,
             notes: String::new(self.alloc),
@@ -303,14 +303,14 @@ impl Comparing<'_> {
     /// What is reported of the translation's file as a whole, if that is reported.
     fn file_report(
         &self,
-        pair: &Pair,
+        pair: &Pair<'_>,
         kind: ReportedKind,
         message: String,
     ) -> Result<String, AllocError>
         ensures { IfOk result (λ report_text. IsFileReport self.now.options.form pair.now (reported_name kind)
-            (string_bytes message) (is_reported self.now.options.ignored.now kind []) (string_bytes report_text)) }
+            (string_bytes message) (is_reported pair.now.ignored.now kind []) (string_bytes report_text)) }
     {
-        if !is_reported(self.options.ignored, kind, "") {
+        if !is_reported(pair.ignored, kind, "") {
             return Ok(String::new(self.alloc));
         }
         let diagnostic = Diagnostic {
@@ -329,7 +329,7 @@ impl Comparing<'_> {
     /// What comes of a pair of these texts.
     fn comparison_of_texts(
         &self,
-        pair: &Pair,
+        pair: &Pair<'_>,
         reference: &str,
         other: &str,
     ) -> Result<PairComparison, PairFault>
@@ -364,7 +364,7 @@ impl Comparing<'_> {
     /// Which of the two files begin with a byte order mark, on lines.
     fn mark_notes(
         &self,
-        pair: &Pair,
+        pair: &Pair<'_>,
         reference: &NameIndex<'_>,
         other: &NameIndex<'_>,
     ) -> Result<String, AllocError> {
@@ -383,7 +383,7 @@ impl Comparing<'_> {
     /// What comes of a pair whose files say this.
     fn comparison_of_indexes(
         &self,
-        pair: &Pair,
+        pair: &Pair<'_>,
         reference: &NameIndex<'_>,
         other: &NameIndex<'_>,
     ) -> Result<PairComparison, AllocError>
@@ -393,12 +393,11 @@ impl Comparing<'_> {
             compared.errors compared.warnings compared.share (string_bytes compared.report_text)) }
     {
         let missing = missing_parts(self.alloc, reference, other)?;
-        let ignored = self.options.ignored;
         let rules = CommentRules::of(self.alloc, reference)?;
         let other_rules = CommentRules::of(self.alloc, other)?;
         let reported = reported_parts(
             self.alloc,
-            ignored,
+            pair.ignored,
             Side::Reference,
             &rules,
             &other_rules,
@@ -417,7 +416,7 @@ impl Comparing<'_> {
         let extra = missing_parts(self.alloc, other, reference)?;
         let extra = reported_parts(
             self.alloc,
-            ignored,
+            pair.ignored,
             Side::Other,
             &other_rules,
             &rules,

@@ -4,7 +4,8 @@ ghost use Rattle.std.specs.Prelude.{string_bytes, true};
 ghost use Rattle.ftl.specs.Watched.{has_failed, inner_of};
 ghost use Rattle.ftl_files.specs.Store.{AllUnchanged};
 ghost use Rattle.ftl_project.specs.Linting.{IsSource, NameIndexesEach, NameIndexesSource, Reads, ReadsSource, Searches};
-ghost use Rattle.ftl_project.specs.Linting.{SearchesFiles, asked_count, found_name, is_asked, is_error, is_warning};
+ghost use Rattle.ftl_project.specs.Linting.{SearchesFiles, asked_count, found_name, ignored_in, is_asked};
+ghost use Rattle.ftl_project.specs.Linting.{is_error, is_warning};
 ghost use Rattle.ftl_project.specs.Linting.{is_commented, is_named_reported, is_reported, name_index_of};
 ghost use Rattle.ftl_project.specs.Linting.{name_indexes_of, reported_findings, searched, with_problems_after};
 ghost use Rattle.ftl_project.specs.NameIndexes.{IsShort};
@@ -30,18 +31,18 @@ use std::io::Write;
 
 /// A file of a set.
 #[derive(Debug, Drop)]
-pub struct LintFile {
+pub struct LintFile<'a> {
     pub path: String,
     /// Whether what is found in it is reported; what it defines counts in any case.
     pub is_asked: bool,
+    /// What is not reported of it, nor counted.
+    pub ignored: &'a [IgnoreRule],
 }
 
 /// How findings are reported.
 #[derive(Clone, Copy, Debug)]
 pub struct LintOptions<'a> {
     pub form: Form,
-    /// What is not reported, nor counted.
-    pub ignored: &'a [IgnoreRule],
     /// How grave a finding is.
     pub levels: Levels<'a>,
     /// What the set is called where its findings are counted; empty where it has no name.
@@ -57,7 +58,7 @@ pub struct LintOptions<'a> {
 pub fn lint_files<S: Store, O: Write, E: Write>(
     alloc: Global,
     store: &mut S,
-    files: &[LintFile],
+    files: &[LintFile<'_>],
     reading: Reading,
     lint_options: LintOptions<'_>,
     tally: &mut Tally,
@@ -75,13 +76,13 @@ pub fn lint_files<S: Store, O: Write, E: Write>(
 }
 
 /// The texts of the files that can be read.
-fn read_sources<S: Store, O: Write, E: Write>(
+fn read_sources<'a, S: Store, O: Write, E: Write>(
     alloc: Global,
     store: &mut S,
-    files: &[LintFile],
+    files: &[LintFile<'a>],
     tally: &mut Tally,
     streams: &mut Streams<'_, O, E>,
-) -> Result<Vec<Source>, RunFault>
+) -> Result<Vec<Source<'a>>, RunFault>
     ensures untouched { AllUnchanged (S.bytes_at store.old) (S.bytes_at store.new) }
     ensures sources { IfOk result (λ sources.
         Reads S.fails (S.bytes_at store.old) files.now sources.items tally.old tally.new) }
@@ -97,11 +98,11 @@ fn read_sources<S: Store, O: Write, E: Write>(
 }
 
 /// Adds the text of a file that can be read, and reports one that can't.
-fn read_source<S: Store, O: Write, E: Write>(
+fn read_source<'a, S: Store, O: Write, E: Write>(
     alloc: Global,
     store: &mut S,
-    file: &LintFile,
-    sources: &mut Vec<Source>,
+    file: &LintFile<'a>,
+    sources: &mut Vec<Source<'a>>,
     tally: &mut Tally,
     streams: &mut Streams<'_, O, E>,
 ) -> Result<(), RunFault>
@@ -122,28 +123,29 @@ fn read_source<S: Store, O: Write, E: Write>(
     }
 }
 
-fn add_source(
+fn add_source<'a>(
     alloc: Global,
-    sources: &mut Vec<Source>,
-    file: &LintFile,
+    sources: &mut Vec<Source<'a>>,
+    file: &LintFile<'a>,
     text: String,
 ) -> Result<(), AllocError>
     ensures { OnOk result ((source : Source) × (string_bytes source.path ≡ string_bytes file.now.path)
         × (string_bytes source.text ≡ string_bytes text) × (source.is_asked ≡ file.now.is_asked)
-        × (sources.new.items ≡ sources.old.items ++ source ∷ [])) }
+        × (source.ignored ≡ file.now.ignored) × (sources.new.items ≡ sources.old.items ++ source ∷ [])) }
 {
     let path = String::from_str(alloc, file.path.as_str())?;
     sources.push(Source {
         path,
         text,
         is_asked: file.is_asked,
+        ignored: file.ignored,
     })?;
     Ok(())
 }
 
 fn lint_sources<O: Write, E: Write>(
     alloc: Global,
-    sources: &[Source],
+    sources: &[Source<'_>],
     reading: Reading,
     lint_options: LintOptions<'_>,
     tally: &mut Tally,
@@ -181,7 +183,7 @@ fn lint_sources<O: Write, E: Write>(
 /// What each file says of names; nothing where it nests too deep, which is reported.
 fn name_indexes<'a, O: Write, E: Write>(
     alloc: Global,
-    sources: &'a [Source],
+    sources: &'a [Source<'_>],
     reading: Reading,
     tally: &mut Tally,
     streams: &mut Streams<'_, O, E>,
@@ -216,7 +218,7 @@ fn add_name_index<'a>(
 /// What the file says of names; nothing where it nests too deep, which is reported.
 fn source_name_index<'a, O: Write, E: Write>(
     alloc: Global,
-    source: &'a Source,
+    source: &'a Source<'_>,
     reading: Reading,
     tally: &mut Tally,
     streams: &mut Streams<'_, O, E>,
@@ -241,7 +243,7 @@ fn source_name_index<'a, O: Write, E: Write>(
 /// What is found in the files that are asked for, without what is ignored.
 fn reported_findings<'x>(
     alloc: Global,
-    sources: &[Source],
+    sources: &[Source<'_>],
     name_indexes: &[NameIndex<'x>],
     options: LintOptions<'x>,
 ) -> Result<Vec<Finding>, AllocError>
@@ -252,7 +254,7 @@ fn reported_findings<'x>(
     let comments = comment_rules(alloc, name_indexes)?;
     all.iter()
         .copied()
-        .filter(|finding| is_reported(options.ignored, sources, &comments, finding))
+        .filter(|finding| is_reported(sources, &comments, finding))
         .collect(alloc)
 }
 
@@ -283,16 +285,12 @@ fn add_comment_rules<'a, 't>(
 }
 
 /// Whether it is not ignored, and in a file that is asked for.
-fn is_reported(
-    ignored: &[IgnoreRule],
-    sources: &[Source],
-    comments: &[CommentRules<'_, '_>],
-    finding: &Finding,
-) -> bool
-    ensures { result ≡ is_reported ignored.now sources.now (name_indexes_of comments.now) finding.now }
+fn is_reported(sources: &[Source<'_>], comments: &[CommentRules<'_, '_>], finding: &Finding) -> bool
+    ensures { result ≡ is_reported sources.now (name_indexes_of comments.now) finding.now }
 {
     let rules = comments.get(finding.file);
     let name = found_name(rules, finding.place);
+    let ignored = ignored_in(sources, finding.file);
     is_named_reported(ignored, rules, finding, name) && is_asked(sources, finding.file)
 }
 
@@ -334,8 +332,18 @@ fn found_name<'t>(comments: Option<&CommentRules<'_, 't>>, place: Option<Span>) 
     }
 }
 
+/// What is not reported of the file of the number.
+fn ignored_in<'a>(sources: &[Source<'a>], number: usize) -> &'a [IgnoreRule]
+    ensures { result.now ≡ ignored_in (slice_get sources.now number) }
+{
+    match sources.get(number) {
+        Some(source) => source.ignored,
+        None => &[],
+    }
+}
+
 /// Whether the file of the number is asked for.
-fn is_asked(sources: &[Source], number: usize) -> bool
+fn is_asked(sources: &[Source<'_>], number: usize) -> bool
     ensures { result ≡ is_asked (slice_get sources.now number) }
 {
     match sources.get(number) {
@@ -345,7 +353,7 @@ fn is_asked(sources: &[Source], number: usize) -> bool
 }
 
 /// How many of the files are asked for.
-fn asked_count(sources: &[Source]) -> usize
+fn asked_count(sources: &[Source<'_>]) -> usize
     ensures { result ≡ asked_count sources.now }
 {
     sources.iter().filter(|source| source.is_asked).count()
@@ -424,7 +432,7 @@ const KINDS: [Kind; 9] = [
 /// that name. All on lines.
 fn notes(
     alloc: Global,
-    sources: &[Source],
+    sources: &[Source<'_>],
     found: &[Finding],
     options: LintOptions<'_>,
 ) -> Result<String, AllocError> {

@@ -4,8 +4,8 @@ use crate::sessions::notices::Notice;
 use crate::workspace::originals::Reference;
 use crate::workspace::settings::{ProjectSettings, nearest_settings};
 use ftl_files::{
-    BlankLines, Excluded, Folders, IgnoreRule, Levels, ReportedKind, Settings, absolute_path,
-    folder_of_languages, is_below, language_of,
+    BlankLines, Excluded, FolderRules, Folders, IgnoreRule, Levels, ReportedKind, Settings,
+    absolute_path, folder_of_languages, is_below, language_of,
 };
 use std::alloc::{AllocError, Global};
 
@@ -15,7 +15,9 @@ pub struct WorkspaceFolder {
     /// Its path, which doesn't end in a `/`.
     pub path: String,
     /// What is not reported of its files.
-    pub ignored: Vec<IgnoreRule>,
+    ignored: Vec<IgnoreRule>,
+    /// What is not reported below these folders either, whose paths begin at the root.
+    folders: Vec<FolderRules>,
     /// The kinds that are warnings there.
     warned: Vec<ReportedKind>,
     /// The kinds that are errors there.
@@ -38,6 +40,7 @@ impl WorkspaceFolder {
         Ok(WorkspaceFolder {
             path: String::from_str(alloc, path)?,
             ignored: Vec::new(alloc),
+            folders: Vec::new(alloc),
             warned: Vec::new(alloc),
             denied: Vec::new(alloc),
             excluded: Excluded::new(alloc),
@@ -54,6 +57,17 @@ impl WorkspaceFolder {
             warned: &self.warned,
             denied: &self.denied,
         }
+    }
+
+    /// Adds what is not reported of a file at the path, which is below it. `AllocError` where a growth was refused.
+    pub fn add_ignored(&self, path: &str, ignored: &mut Vec<IgnoreRule>) -> Result<(), AllocError> {
+        push_rules(ignored, &self.ignored)?;
+        for rules in &self.folders {
+            if is_below(rules.folder.as_str(), path) {
+                push_rules(ignored, &rules.ignored)?;
+            }
+        }
+        Ok(())
     }
 
     /// Whether the path is below it.
@@ -104,6 +118,7 @@ impl WorkspaceFolder {
         self.reference = None;
         self.languages = None;
         self.ignored = Vec::new(alloc);
+        self.folders = Vec::new(alloc);
         self.warned = Vec::new(alloc);
         self.denied = Vec::new(alloc);
         self.excluded = Excluded::new(alloc);
@@ -114,6 +129,7 @@ impl WorkspaceFolder {
         let Settings {
             reference,
             ignored,
+            folders,
             warned,
             denied,
             excluded,
@@ -129,11 +145,31 @@ impl WorkspaceFolder {
             self.languages = folder_of_languages(alloc, "", path)?;
             self.reference = Reference::in_folder(alloc, "", path.trim_start_matches('/'))?;
         }
+        self.folders = folders_in(alloc, folder, folders)?;
         self.ignored = ignored;
         self.warned = warned;
         self.denied = denied;
         Ok(())
     }
+}
+
+/// The same rules, of the folders at paths that begin at the root and not at the folder.
+fn folders_in(
+    alloc: Global,
+    folder: &str,
+    mut folders: Vec<FolderRules>,
+) -> Result<Vec<FolderRules>, AllocError> {
+    for rules in folders.iter_mut() {
+        rules.folder = absolute_path(alloc, folder, rules.folder.as_str())?;
+    }
+    Ok(folders)
+}
+
+fn push_rules(ignored: &mut Vec<IgnoreRule>, rules: &[IgnoreRule]) -> Result<(), AllocError> {
+    for rule in rules {
+        ignored.push(rule.clone()?)?;
+    }
+    Ok(())
 }
 
 /// What the settings in the folder say is passed over.

@@ -23,7 +23,7 @@ use std::alloc::{AllocError, Global};
 #[derive(Clone, Copy)]
 pub(crate) struct PairReporter<'a> {
     pub(crate) alloc: Global,
-    pub(crate) pair: &'a Pair,
+    pub(crate) pair: &'a Pair<'a>,
     pub(crate) form: Form,
     pub(crate) levels: Levels<'a>,
     pub(crate) side: Side,

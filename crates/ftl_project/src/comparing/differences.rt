@@ -4,7 +4,6 @@ ghost use Rattle.ftl_project.specs.Comparing.{is_file_error, is_file_warning};
 ghost use Rattle.ftl_project.specs.Differences.{counts_as_error, counts_as_warning, is_error_kind};
 ghost use Rattle.ftl_project.specs.Differences.{is_error_severity, is_part_reported, is_reported, reported_parts};
 
-use crate::comparing::CompareOptions;
 use fluent_syntax_names::{MissingPart, Part, Severity, Side, shown_name};
 use ftl_files::{CommentRules, IgnoreRule, Levels, ReportedKind, is_ignored, is_part_left_out};
 use std::alloc::{AllocError, Global};
@@ -77,17 +76,21 @@ pub(crate) fn is_reported(ignored: &[IgnoreRule], kind: ReportedKind, name: &str
 }
 
 /// Whether what this kind says of a file as a whole is reported as an error.
-pub(crate) fn is_file_error(options: CompareOptions<'_>, kind: ReportedKind) -> bool
-    ensures { result ≡ is_file_error options.entry kind }
+pub(crate) fn is_file_error(ignored: &[IgnoreRule], levels: Levels<'_>, kind: ReportedKind) -> bool
+    ensures { result ≡ is_file_error ignored.now levels.entry kind }
 {
-    is_reported(options.ignored, kind, "") && is_error_kind(options.levels, kind)
+    is_reported(ignored, kind, "") && is_error_kind(levels, kind)
 }
 
 /// Whether it is reported as a warning.
-pub(crate) fn is_file_warning(options: CompareOptions<'_>, kind: ReportedKind) -> bool
-    ensures { result ≡ is_file_warning options.entry kind }
+pub(crate) fn is_file_warning(
+    ignored: &[IgnoreRule],
+    levels: Levels<'_>,
+    kind: ReportedKind,
+) -> bool
+    ensures { result ≡ is_file_warning ignored.now levels.entry kind }
 {
-    is_reported(options.ignored, kind, "") && !is_error_kind(options.levels, kind)
+    is_reported(ignored, kind, "") && !is_error_kind(levels, kind)
 }
 
 /// Whether what is of the kind is an error.

@@ -1,13 +1,16 @@
 //! Files of a reference, each with its translation.
 
 use fluent_syntax_names::Side;
+use ftl_files::IgnoreRule;
 
 /// A file of the reference, and the one that is to be its translation.
 #[derive(Debug, Drop)]
-pub struct Pair {
+pub struct Pair<'a> {
     pub reference: String,
     pub other: String,
     pub presence: Presence,
+    /// What is not reported of the pair, nor counted.
+    pub ignored: &'a [IgnoreRule],
 }
 
 /// Which files of a pair are there.
@@ -18,7 +21,7 @@ pub enum Presence {
     OtherAlone,
 }
 
-impl Pair {
+impl Pair<'_> {
     /// The path of the file of this side.
     pub(crate) fn path(&self, side: Side) -> &str {
         match side {

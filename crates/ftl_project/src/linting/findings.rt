@@ -12,22 +12,24 @@ use crate::reporting::diagnostics::{
 use crate::reporting::line_starts::LineStarts;
 use fluent_syntax::spans::{Lines, Span};
 use fluent_syntax_names::{Finding, NameIndex, Severity, full_name, shown_name};
-use ftl_files::{Form, Levels, ReportedKind};
+use ftl_files::{Form, IgnoreRule, Levels, ReportedKind};
 use std::alloc::{AllocError, Global};
 
 /// A file that was read.
 #[derive(Debug, Drop)]
-pub(crate) struct Source {
+pub(crate) struct Source<'a> {
     pub(crate) path: String,
     pub(crate) text: String,
     /// Whether what is found in it is reported.
     pub(crate) is_asked: bool,
+    /// What is not reported of it, nor counted.
+    pub(crate) ignored: &'a [IgnoreRule],
 }
 
 /// What is reported of the findings in the files, which say this of names.
 pub(crate) fn report_findings(
     alloc: Global,
-    sources: &[Source],
+    sources: &[Source<'_>],
     name_indexes: &[NameIndex<'_>],
     findings: &[Finding],
     form: Form,
@@ -60,7 +62,7 @@ pub(crate) fn report_findings(
 }
 
 /// The path of the file of the number; none where there is no such file.
-fn path_of(sources: &[Source], number: usize) -> &str
+fn path_of<'s>(sources: &'s [Source<'_>], number: usize) -> &'s str
     ensures { result.now ≡ path_of (slice_get sources.now number) }
 {
     match sources.get(number) {

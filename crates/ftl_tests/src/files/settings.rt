@@ -97,6 +97,30 @@ fn ignored_names(rt: HostRuntime) -> Result<(), Fail> {
     Ok(())
 }
 
+const OF_FOLDERS: &str = "[folders.\"l10n/old\"]\nignore = ['obsolete', 'undefined-term:-x-*']\n\
+    [folders.empty]\n[folders.'\u{e9}']\nignore = []\n";
+
+/// The folders, each with how many rules it has.
+const FOLDERS: [(&str, usize); 3] = [("empty", 0), ("l10n/old", 2), ("\u{e9}", 0)];
+
+#[test]
+fn folders(rt: HostRuntime) -> Result<(), Fail> {
+    let alloc = rt.alloc();
+    let Ok(settings) = settings_of(alloc, OF_FOLDERS) else {
+        return Err("refused".into());
+    };
+    assert_same(alloc, "folders", &settings.folders.len(), &FOLDERS.len())?;
+    assert_holds(alloc, "ignore", settings.ignored.is_empty())?;
+    for (rules, (folder, number)) in settings.folders.iter().zip(FOLDERS) {
+        assert_same_text(alloc, folder, rules.folder.as_str(), folder)?;
+        assert_same(alloc, folder, &rules.ignored.len(), &number)?;
+        let kind = ReportedKind::Finding(Kind::UndefinedTerm);
+        let is_it = is_ignored(&rules.ignored, kind, "-x-term");
+        assert_holds(alloc, folder, is_it == (number == 2))?;
+    }
+    Ok(())
+}
+
 fn assert_refused(alloc: Global, text: &str, sentence: &str) -> Result<(), Fail> {
     match settings_of(alloc, text) {
         Err(fault) => {
@@ -114,5 +138,15 @@ fn refused_settings(rt: HostRuntime) -> Result<(), Fail> {
         rt.alloc(),
         "warn = ['missing', 'obsolete']\ndeny = ['obsolete']\n",
         "`warn` and `deny` both have `obsolete`",
+    )?;
+    assert_refused(
+        rt.alloc(),
+        "[folders]\nold = ['obsolete']\n",
+        "`folders` wants a table for each folder, as [folders.\"locales/old\"]",
+    )?;
+    assert_refused(
+        rt.alloc(),
+        "[folders.old]\nexclude = ['a']\n",
+        "no setting of a folder is called `exclude`",
     )
 }

@@ -21,7 +21,8 @@ returns-clause-says c =
     let nesting = table_get c.get-8.result (codes "nesting") entries c.get-8.ensures.value in
     let color = table_get c.get-9.result (codes "color") entries c.get-9.ensures.value in
     let apart = rw (c.deref.ensures.value, c.deref-2.ensures.value) at c.in_ok-check_apart.ensures.apart in
-    let blank_lines = table_get c.get-10.result (codes "blank-lines") entries c.get-10.ensures.value in (
+    let blank_lines = table_get c.get-10.result (codes "blank-lines") entries c.get-10.ensures.value in
+    let folders = table_get c.get-11.result (codes "folders") entries c.get-11.ensures.value in (
       table_view c.in-Ok.table,
       c.in-Ok.ensures.ok,
       record {
@@ -37,6 +38,7 @@ returns-clause-says c =
         nesting = rw nesting at c.in_ok-nesting.ensures.says;
         color = rw color at c.in_ok-color.ensures.says;
         blank_lines = rw blank_lines at c.in_ok-blank_lines.ensures.says;
+        folders = rw folders at c.in_ok-folders.ensures.says;
       },
     )
 
@@ -135,3 +137,11 @@ returns-in_err-blank_lines-clause-refused c =
     let refused = rw value at c.in_err-blank_lines.ensures.refused in
     rw (p.1, p.2) (document_with_fault_says_no_settings c.args.text.now (table_view c.in-Ok.table) _ c.in-Ok.ensures.ok
     (λ other settings says. refused settings.blank_lines says.blank_lines))
+
+pub returns-in_err-folders-clause-refused : goal.returns-in_err-folders-clause-refused
+returns-in_err-folders-clause-refused c =
+    let p = err_from_is_err_and c.from_residual-in_err-folders.result c.from_residual-in_err-folders.ensures.1 in
+    let value = table_get c.get-11.result (codes "folders") c.in-Ok.table.entries c.get-11.ensures.value in
+    let refused = rw value at c.in_err-folders.ensures.refused in
+    rw (p.1, p.2) (document_with_fault_says_no_settings c.args.text.now (table_view c.in-Ok.table) _ c.in-Ok.ensures.ok
+    (λ other settings says. refused other settings.folders.items says.folders))

@@ -14,7 +14,8 @@ returns-in-Ok-add_source-clause-source g c =
         path_is = added.1;
         text_is = subst (λ t. IfSome (at (string_bytes c.args.file.now.path)) (λ b. t ≡ b)) (sym added.2) read;
         asked_is = added.3;
+        ignored_is = added.4;
       },
-      added.4,
+      added.5,
       refl,
     )

@@ -5,7 +5,6 @@ use Rattle.ftl_project.proofs.linting.reported_findings.Goals as goal
 
 pub returns : goal.returns
 returns c =
-    let reported = is_reported c.args.options.ignored.now c.args.sources.now
-    (name_indexes_of c.in_ok-comments.comments.items) in
+    let reported = is_reported c.args.sources.now (name_indexes_of c.in_ok-comments.comments.items) in
     let found : IfOk c.collect.result (λ list. list.items ≡ filter reported c.in_ok-all.all.items) = search rules in
     rw (← c.in_ok-all.ensures, ← c.in_ok-comments.ensures) found

@@ -13,7 +13,7 @@ returns-clause-compared c =
       c.in_ok-reference.ensures.name_index,
       record {
         report_is = subst (λ message. IsFileReport options.form pair (codes "missing-file") message
-            (is_reported options.ignored.now MissingFile []) (string_bytes c.in_ok-report_text.report_text))
+            (is_reported pair.ignored.now MissingFile []) (string_bytes c.in_ok-report_text.report_text))
             (simp (c.in_ok-message.ensures.ok, c.as_str.ensures.value)) c.in_ok-report_text.ensures;
         errors_are = rw (c.from.ensures, c.is_file_error-is_error.ensures) (from_bool_is_one_or_zero _);
         warnings_are = rw (c.from-2.ensures, c.is_file_warning-is_warning.ensures) (from_bool_is_one_or_zero _);

@@ -11,7 +11,7 @@ returns c =
     let pair = c.args.pair.now in
     record {
       report_is = subst (λ message. IsFileReport options.form pair (codes "obsolete-file") message
-          (is_reported options.ignored.now ObsoleteFile []) (string_bytes c.in_ok-report_text.report_text))
+          (is_reported pair.ignored.now ObsoleteFile []) (string_bytes c.in_ok-report_text.report_text))
           (simp (c.in_ok-message.ensures.ok, c.as_str.ensures.value)) c.in_ok-report_text.ensures;
       errors_are = rw (c.from.ensures, c.is_file_error-is_error.ensures) (from_bool_is_one_or_zero _);
       warnings_are = rw (c.from-2.ensures, c.is_file_warning-is_warning.ensures) (from_bool_is_one_or_zero _);

@@ -12,7 +12,7 @@ returns c =
     let pair = c.args.pair.now in
     let kind = c.args.kind in
     let message = string_bytes c.args.message in
-    let stated : is_reported options.ignored.now kind [] ≡ true = search (rules, c.if-not-is_reported.false) in
+    let stated : is_reported pair.ignored.now kind [] ≡ true = search (rules, c.if-not-is_reported.false) in
     let report =
     report_of_equal_parts_is_report c.diagnostic_text.result options.form c.as_str.result.now
     (string_bytes pair.other) None

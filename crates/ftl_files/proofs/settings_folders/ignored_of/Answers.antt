@@ -7,7 +7,7 @@ use Rattle.ftl_files.specs.IgnoreRules.{rule_text}
 use Rattle.ftl_files.specs.declared.ignore_rules.IgnoreRule.{IgnoreRule}
 use Rattle.toml.specs.Data.{Data, array, string}
 use Rattle.ftl_files.proofs.ListedNames.{list_of_names_is_listed, name_in_none_is_not_listed}
-use Rattle.ftl_files.proofs.settings.ignored_of.Goals as goal
+use Rattle.ftl_files.proofs.settings_folders.ignored_of.Goals as goal
 
 abbrev named : IgnoreRule → Data
 named rule = string (rule_text rule)
