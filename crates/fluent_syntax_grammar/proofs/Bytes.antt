@@ -40,32 +40,32 @@ module _ {T W : Type 0} {text : W → List ℕ} {room : W → ℕ} where
       none true is = silent is is refl
 
   -- What comes after bytes is known where they were taken, and makes no difference elsewhere.
-  pub outcome_of_append_is_of_both : {a b c : TextWriter T W} {xs zs : Text} (ys : Text)
+  pub Outcome-append : {a b c : TextWriter T W} {xs zs : Text} (ys : Text)
       → Outcome text room a b xs → Outcome text room b c zs → (b.last ≡ last_of a.last xs → zs ≡ ys)
       → Outcome text room a c (xs ++ ys)
-  outcome_of_append_is_of_both {a} {b} {c} {xs} ys (appended was mid first last) (appended mid2 now second last2) same =
+  Outcome-append {a} {b} {c} {xs} ys (appended was mid first last) (appended mid2 now second last2) same =
       let rest = subst (λ t. Takes text room b.sink.now c.sink.now t) (same last) second in
       let last_again : last_of b.last ys ≡ last_of (last_of a.last xs) ys = ap (λ l. last_of l ys) last in
       let last_now = last2 ∙ ap (last_of b.last) (same last) ∙ last_again ∙ sym (last_of-append a.last xs ys) in
       appended was now (Takes-append text room first rest) last_now
-  outcome_of_append_is_of_both {a} {b} {c} ys (appended was mid first last) (stopped mid2 now second) same =
+  Outcome-append {a} {b} {c} ys (appended was mid first last) (stopped mid2 now second) same =
       let rest = subst (λ t. TakesBeginning text room b.sink.now c.sink.now t) (same last) second in
       stopped was now (TakesBeginning-after text room first rest)
-  outcome_of_append_is_of_both ys (appended was mid first last) (silent mid2 now second) same = cc
-  outcome_of_append_is_of_both ys (stopped was mid first) (appended mid2 now second last2) same = cc
-  outcome_of_append_is_of_both ys (stopped was mid first) (stopped mid2 now second) same = cc
-  outcome_of_append_is_of_both {a} {b} {c} {xs} ys (stopped was mid first) (silent mid2 now second) same =
+  Outcome-append ys (appended was mid first last) (silent mid2 now second) same = cc
+  Outcome-append ys (stopped was mid first) (appended mid2 now second last2) same = cc
+  Outcome-append ys (stopped was mid first) (stopped mid2 now second) same = cc
+  Outcome-append {a} {b} {c} {xs} ys (stopped was mid first) (silent mid2 now second) same =
       let begun = TakesBeginning-before text room ys first in
       stopped was now (subst (λ w. TakesBeginning text room a.sink.now w (xs ++ ys)) (sym second) begun)
-  outcome_of_append_is_of_both ys (silent was mid first) (appended mid2 now second last2) same = cc
-  outcome_of_append_is_of_both ys (silent was mid first) (stopped mid2 now second) same = cc
-  outcome_of_append_is_of_both ys (silent was mid first) (silent mid2 now second) same = silent was now (second ∙ first)
+  Outcome-append ys (silent was mid first) (appended mid2 now second last2) same = cc
+  Outcome-append ys (silent was mid first) (stopped mid2 now second) same = cc
+  Outcome-append ys (silent was mid first) (silent mid2 now second) same = silent was now (second ∙ first)
 
   pub Appends-append : {a b c : TextWriter T W} {xs ys : Text}
       → Appends text room a b xs → Appends text room b c ys → Appends text room a c (xs ++ ys)
   Appends-append {ys = ys} h k = record {
     same_sink = k.same_sink ∙ h.same_sink;
-    outcome = outcome_of_append_is_of_both ys h.outcome k.outcome (λ last. refl);
+    outcome = Outcome-append ys h.outcome k.outcome (λ last. refl);
   }
 
   -- bytes under another name

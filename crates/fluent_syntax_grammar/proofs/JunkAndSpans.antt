@@ -1,6 +1,6 @@
 -- The junk of a tiling is that of its errors, its errors ascend, and the texts of its body lie in the source.
 use Rattle.std.proofs.Common.{◌≡◌, ℕ, ◌<◌, ◌≤◌, List, [], ◌∷◌, ◌++◌, length, map, Option, Some, None, Bool, true, false}
-use Rattle.std.proofs.Common.{refl, sym, ◌∙◌, subst, ap, arith}
+use Rattle.std.proofs.Common.{refl, sym, ◌∙◌, subst, ap, arith, append-nil}
 use Rattle.std.specs.Prelude.{slice_get, ◌==◌, if◌then◌else◌}
 use Rattle.std.specs.List.{flat_map}
 use Rattle.std.specs.Str.{IsCharBoundary}
@@ -30,7 +30,7 @@ use Rattle.fluent_syntax_grammar.proofs.SoundTiling.{runtime_tiles_are_well_form
 use Rattle.fluent_syntax_grammar.proofs.Boundaries.{places_in_text_are_boundaries, char_boundaries_are_boundaries}
 use Rattle.fluent_syntax_grammar.proofs.BareEntries.{read_message_is_bare, read_term_is_bare}
 use Rattle.fluent_syntax_grammar.proofs.Runtime.{IsBare}
-use Rattle.fluent_syntax_grammar.proofs.Facts.{append_of_nothing_is_same, flat_map_of_append}
+use Rattle.fluent_syntax_grammar.proofs.Facts.{flat_map_of_append}
 
 -- ---- the texts of a body
 
@@ -257,7 +257,7 @@ non_junk_has_no_junk_slice (comment level content) b = refl
 non_junk_has_no_junk_slice (junk s) b = absurd b
 
 alone_keeps_junk : (x : Tile) → HoldsNoJunkEntry x → flat_map junk_slice (alone x) ≡ junk_of_tile x
-alone_keeps_junk (entry s e) b = append_of_nothing_is_same (junk_slice e) ∙ non_junk_has_no_junk_slice e b
+alone_keeps_junk (entry s e) b = append-nil (junk_slice e) ∙ non_junk_has_no_junk_slice e b
 alone_keeps_junk (refused f) b = refl
 alone_keeps_junk dropped b = refl
 
@@ -312,7 +312,7 @@ joined_tiles_have_junk_of_tiles x y others after tiles (Some h) e b p q =
 junk_is_kept : (xs : List Tile) → list_every HoldsNoJunkEntry xs →
     flat_map junk_slice (body xs) ≡ flat_map junk_of_tile xs
 junk_is_kept [] b = refl
-junk_is_kept (x ∷ []) (b, c) = alone_keeps_junk x b ∙ sym (append_of_nothing_is_same (junk_of_tile x))
+junk_is_kept (x ∷ []) (b, c) = alone_keeps_junk x b ∙ sym (append-nil (junk_of_tile x))
 junk_is_kept (x ∷ y ∷ tiles) (b, (c, d)) =
     joined_tiles_have_junk_of_tiles x y (body (y ∷ tiles)) (body tiles) tiles (attached_entry x y) refl b
     (junk_is_kept (y ∷ tiles) (c, d))

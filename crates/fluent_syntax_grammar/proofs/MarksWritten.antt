@@ -3,7 +3,7 @@ use Rattle.std.proofs.Common.{◌≡◌, ℕ, List, [], ◌∷◌, ◌++◌, Opt
 use Rattle.std.proofs.Common.{refl, sym, ap, ◌∙◌, append_assoc, append-nil}
 use Rattle.fluent_syntax_grammar.specs.Written.{Text, indent, Mark, literal, last_of, is_last, mark_text, text_after}
 use Rattle.fluent_syntax_grammar.specs.Writing.{Appends, Writes}
-use Rattle.fluent_syntax_grammar.proofs.Bytes.{last_of-append, outcome_of_append_is_of_both, Appends-none}
+use Rattle.fluent_syntax_grammar.proofs.Bytes.{last_of-append, Outcome-append, Appends-none}
 use Rattle.fluent_syntax_grammar.proofs.Bytes.{Appends-bytes}
 use Rattle.fluent_syntax_grammar.specs.declared.text_writer.TextWriter.{TextWriter}
 
@@ -45,7 +45,7 @@ module _ {T W : Type 0} {text : W → List ℕ} {room : W → ℕ} where
         text_appended = Appends-bytes (text_after-append a.last ms ns) (record {
           same_sink = second.same_sink ∙ first.same_sink;
           outcome =
-              outcome_of_append_is_of_both rest first.outcome second.outcome (λ last. ap (λ l. text_after l ns) last);
+              Outcome-append rest first.outcome second.outcome (λ last. ap (λ l. text_after l ns) last);
         });
       }
 

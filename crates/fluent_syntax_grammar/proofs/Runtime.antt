@@ -1,5 +1,6 @@
 -- What the tiling without comments gives is what the tiling gives, without its comments.
 use Rattle.std.proofs.Common.{◌≡◌, List, [], ◌∷◌, ◌++◌, Option, Some, None, Bool, true, false, refl, sym, ◌∙◌, ap}
+use Rattle.std.proofs.Common.{append-nil}
 use Rattle.std.specs.Prelude.{◌==◌, if◌then◌else◌}
 use Rattle.std.specs.List.{flat_map}
 use Rattle.fluent_syntax_tree.specs.Entry.{EntryTree, message, term, comment, junk, regular, group, resource, BodyTree}
@@ -10,7 +11,7 @@ use Rattle.fluent_syntax_grammar.specs.UniqueReading.{bare, without_comments, na
 use Rattle.fluent_syntax_tree.specs.declared.spans.Span.{Span}
 use Rattle.fluent_syntax_grammar.proofs.Aligned.{Aligned, nothing, both, comment_left, dropped_right, junk_left}
 use Rattle.fluent_syntax_grammar.proofs.Aligned.{junk_both}
-use Rattle.fluent_syntax_grammar.proofs.Facts.{append_of_nothing_is_same, flat_map_of_append}
+use Rattle.fluent_syntax_grammar.proofs.Facts.{flat_map_of_append}
 
 -- what a tile gives without comments
 abbrev pub bare_tile : Tile → BodyTree Span
@@ -24,7 +25,7 @@ bare_tiles = flat_map bare_tile
 -- ---- the tiling
 
 alone_is_bare_tile : (x : Tile) → without_comments (alone x) ≡ bare_tile x
-alone_is_bare_tile (entry s e) = append_of_nothing_is_same (bare e)
+alone_is_bare_tile (entry s e) = append-nil (bare e)
 alone_is_bare_tile (refused f) = refl
 alone_is_bare_tile dropped = refl
 
@@ -72,7 +73,7 @@ joined_is_bare_tiles x y others after tiles (Some h) e p q =
 -- the body without comments is what the tiles give without comments
 pub body_without_comments_is_of_bare_tiles : (xs : List Tile) → without_comments (body xs) ≡ bare_tiles xs
 body_without_comments_is_of_bare_tiles [] = refl
-body_without_comments_is_of_bare_tiles (x ∷ []) = alone_is_bare_tile x ∙ sym (append_of_nothing_is_same (bare_tile x))
+body_without_comments_is_of_bare_tiles (x ∷ []) = alone_is_bare_tile x ∙ sym (append-nil (bare_tile x))
 body_without_comments_is_of_bare_tiles (x ∷ y ∷ tiles) =
     joined_is_bare_tiles x y (body (y ∷ tiles)) (body tiles) tiles (attached_entry x y) refl
     (body_without_comments_is_of_bare_tiles (y ∷ tiles))
@@ -110,7 +111,7 @@ bare_tile_attaches_nothing dropped y b = refl
 
 pub body_of_bare_tiles_is_bare_tiles : (xs : List Tile) → list_every IsBareTile xs → body xs ≡ bare_tiles xs
 body_of_bare_tiles_is_bare_tiles [] b = refl
-body_of_bare_tiles_is_bare_tiles (x ∷ []) (b, c) = bare_tile_is_kept x b ∙ sym (append_of_nothing_is_same (bare_tile x))
+body_of_bare_tiles_is_bare_tiles (x ∷ []) (b, c) = bare_tile_is_kept x b ∙ sym (append-nil (bare_tile x))
 body_of_bare_tiles_is_bare_tiles (x ∷ y ∷ tiles) (b, c) =
     ap (λ o. or_attached o (alone x) (body (y ∷ tiles)) (body tiles)) (bare_tile_attaches_nothing x y b) ∙
     (ap (λ zs. zs ++ body (y ∷ tiles)) (bare_tile_is_kept x b)

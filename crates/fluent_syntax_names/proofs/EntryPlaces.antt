@@ -10,9 +10,9 @@ use Rattle.fluent_syntax_names.specs.Tables.{Lookup}
 use Rattle.fluent_syntax_names.specs.declared.mention.Mention.{Mention}
 use Rattle.fluent_syntax_names.proofs.Adding.{drop_one_node}
 
-first_of_no_place_is_place : (place : Option Span) → first_of place None ≡ place
-first_of_no_place_is_place None = refl
-first_of_no_place_is_place (Some x) = refl
+first_of-none : (place : Option Span) → first_of place None ≡ place
+first_of-none None = refl
+first_of-none (Some x) = refl
 
 first_of_is_associative : (a b c : Option Span) → first_of (first_of a b) c ≡ first_of a (first_of b c)
 first_of_is_associative None b c = refl
@@ -35,6 +35,6 @@ module _ (named : Mention Span → Text → Option Span) (ms : Mentions Span) (a
 
   pub places_at_last_mention_are_all : (i : ℕ) → length ms ≤ i → LeavesPlaces i → (entry : Text) → now entry ≡ all entry
   places_at_last_mention_are_all i end left = λ entry.
-      sym (first_of_no_place_is_place (now entry))
+      sym (first_of-none (now entry))
       ∙ ap (λ l. first_of (now entry) (first_place_in named l entry)) (sym (drop_all i ms end))
       ∙ left entry

@@ -176,13 +176,13 @@ opened_text_is_published r d uri text version old mid new named stated numbered 
     same sent
 
 -- a document that was changed
-pub changed_text_is_published : {Y : Type 0} (r : Result (Option Value) Y) (d : Data) (uri : List ℕ) (items : Items)
-    (edits : List Edit) (version : Option ℤ) (found : Bool) (old mid new : Session) → uri_in d ≡ Some uri →
-    changes_in d ≡ Some items → edits_in items ≡ Some edits → version ≡ version_in d →
+pub change_is_answered_by_diagnostics : {Y : Type 0} (r : Result (Option Value) Y) (d : Data) (uri : List ℕ)
+    (items : Items) (edits : List Edit) (version : Option ℤ) (found : Bool) (old mid new : Session) →
+    uri_in d ≡ Some uri → changes_in d ≡ Some items → edits_in items ≡ Some edits → version ≡ version_in d →
     is_some (old.texts uri) ≡ true → SetsMade old.texts uri version edits found mid.texts → OnOk r (new ≡ mid) →
     IfOk r (λ sent. IsSent (published uri (mid.texts uri)) (option_map view sent)) →
     IfOk r (λ sent. SendsWhileRunning old.texts d (Some DidChange) (option_map view sent) new.texts)
-changed_text_is_published r d uri items edits version true old mid new named stated is_read numbered open'
+change_is_answered_by_diagnostics r d uri items edits version true old mid new named stated is_read numbered open'
     (before, after, was, makes, sets) same sent =
     diagnosed_document_is_sent_while_running r old.texts d (Some DidChange) uri after mid new
     (document_that_is_set_is_open old.texts mid.texts uri after sets)
@@ -190,8 +190,8 @@ changed_text_is_published r d uri items edits version true old mid new named sta
     (subst (λ (n : Option ℤ). MakesOpen before n edits after) numbered makes)
     (subst (λ (t : List ℕ → Option OpenText). Sets old.texts uri (Some after) t) (sym e) sets))
     same sent
-changed_text_is_published r d uri items edits version false old mid new named stated is_read numbered open' h same
-    sent =
+change_is_answered_by_diagnostics r d uri items edits version false old mid new named stated is_read numbered open' h
+    same sent =
     absurd (true≢false (sym open' ∙ ap is_some h.0))
 
 -- a document that is saved

@@ -1,6 +1,6 @@
 -- Where the first line of a pattern keeps spaces, another line has fewer: so the pattern spans lines.
 use Rattle.std.proofs.Common.{◌≡◌, ℕ, ◌+◌, ◌≤◌, List, [], ◌∷◌, ◌++◌, Option, None, Bool, true, false, refl, sym, ◌∙◌}
-use Rattle.std.proofs.Common.{subst, ap, arith, inl, inr}
+use Rattle.std.proofs.Common.{subst, ap, arith, inl, inr, append-nil}
 use Rattle.std.specs.Prelude.{◌==◌, ◌||◌, ◌⊎◌, slice_range}
 use Rattle.std.specs.List.{list_any, flat_map}
 use Rattle.std.proofs.lemmas.List.Folds.{list_any-append}
@@ -16,7 +16,6 @@ use Rattle.fluent_syntax_grammar.specs.Elements.{line_items, items, is_nonblank,
 use Rattle.fluent_syntax_grammar.specs.Written.{Text, has_lf, is_select, is_multiline}
 use Rattle.fluent_syntax_grammar.specs.Joined.{joined_pattern}
 use Rattle.fluent_syntax_grammar.specs.RoundTrip.{HasNoBareCr}
-use Rattle.fluent_syntax_grammar.proofs.Facts.{append_of_nothing_is_same}
 use Rattle.fluent_syntax_grammar.proofs.backward.Texts.{line_end, nonblank_is_shows}
 use Rattle.fluent_syntax_grammar.proofs.backward.Shapes.{items_tree}
 use Rattle.fluent_syntax_grammar.proofs.backward.Lines.{range_ends_with_its_last_byte, tested_byte_is_at_place}
@@ -140,13 +139,13 @@ module _ (t : List ℕ) (bare : HasNoBareCr t) (Joins : Type 0) (crs : (i : ℕ)
       (range_ends_with_its_last_byte t kept n lf l (tested_byte_is_at_place t lf n h)))
   line_of_run_has_item_that_stays kept first to b [] n e j l x (no_piece y) (crlf_ends c h) =
       true_by_left _ _
-      (text_with_shown_byte_stays kept first to b false n x (sym (append_of_nothing_is_same (slice_range t kept n))))
+      (text_with_shown_byte_stays kept first to b false n x (sym (append-nil (slice_range t kept n))))
   line_of_run_has_item_that_stays kept first to b [] n e j l x (no_piece y) (text_ends h) =
       true_by_left _ _
-      (text_with_shown_byte_stays kept first to b false n x (sym (append_of_nothing_is_same (slice_range t kept n))))
+      (text_with_shown_byte_stays kept first to b false n x (sym (append-nil (slice_range t kept n))))
   line_of_run_has_item_that_stays kept first to b (p ∷ ps) n e j l x y h =
       true_by_left _ _
-      (text_with_shown_byte_stays kept first to b false to x (sym (append_of_nothing_is_same (slice_range t kept to))))
+      (text_with_shown_byte_stays kept first to b false to x (sym (append-nil (slice_range t kept to))))
 
   -- a line does not count, or gives an item that stays
   counted_line_has_item_that_stays : (kept first byte spaces : ℕ) (ps : List Piece) (n : ℕ) (e : Ending) (j at : ℕ) →

@@ -1,6 +1,6 @@
 -- The items of a pattern that was read have a shape, by where each is; items of this shape spell, once they are
 -- cut, trimmed and joined, the elements of a readable pattern.
-use Rattle.std.proofs.Common.{◌≡◌, ℕ, List, [], ◌∷◌, ◌++◌, Bool, true, false, refl, sym, ◌∙◌, subst, ap}
+use Rattle.std.proofs.Common.{◌≡◌, ℕ, List, [], ◌∷◌, ◌++◌, Bool, true, false, refl, sym, ◌∙◌, subst, ap, append-nil}
 use Rattle.std.specs.Prelude.{◌&&◌, not, if◌then◌else◌, slice_range}
 use Rattle.std.specs.List.{list_all}
 use Rattle.fluent_syntax_tree.specs.Tree.{ExpressionTree, expression_map, ElementTree, text_element, placeable}
@@ -18,7 +18,7 @@ use Rattle.fluent_syntax_grammar.specs.Readable.{is_text, ElementPosition, openi
 use Rattle.fluent_syntax_grammar.specs.Readable.{after_placeable, position_after, may_occur_at, may_precede}
 use Rattle.fluent_syntax_grammar.specs.Readable.{are_elements, readable_rules}
 use Rattle.fluent_syntax_grammar.specs.Joined.{is_joined, joined_expression, joined_pattern, joined_after}
-use Rattle.fluent_syntax_grammar.proofs.Facts.{and_gives_left, and_gives_right, same_by_test, append_of_nothing_is_same}
+use Rattle.fluent_syntax_grammar.proofs.Facts.{and_gives_left, and_gives_right, same_by_test}
 use Rattle.fluent_syntax_grammar.proofs.Tests.{true_and_true}
 use Rattle.fluent_syntax_grammar.proofs.backward.Texts.{is_plain, line_end, line_with_lf_is_not_empty, plain_is_text}
 use Rattle.fluent_syntax_grammar.proofs.backward.Texts.{line_with_lf_ends_in_lf}
@@ -224,7 +224,7 @@ module _ (t : List ℕ) (Joins : Type 0) (m : Bool) where
       front_of_shown_text_begins_element m s r.kept r.rest r.shown (subst (BeginsElement m s) r.is b)
       in
       let same : slice_range t from (trimmed_end t from to) ≡ r.kept = trimmed_range_is_kept t u c from to e r in
-      let bare : r.kept ++ line_end false ≡ r.kept = append_of_nothing_is_same r.kept in
+      let bare : r.kept ++ line_end false ≡ r.kept = append-nil r.kept in
       let is : is_text r.kept ≡ true =
       subst (λ v. is_text v ≡ true) bare
       (plain_is_text r.kept false r.plain
@@ -241,7 +241,7 @@ module _ (t : List ℕ) (Joins : Type 0) (m : Bool) where
       (joined_pattern (items_tree t xs)) →
       IsWellPlaced m s (joined_after w (items_tree t (placeable_item e ∷ xs)))
   run_before_placeable_is_well_placed s u w e xs f p n b g h =
-      let bare : u ++ line_end false ≡ u = append_of_nothing_is_same u in
+      let bare : u ++ line_end false ≡ u = append-nil u in
       let is : is_text u ≡ true =
       subst (λ v. is_text v ≡ true) bare (plain_is_text u false p (subst (λ v. is_empty v ≡ false) (sym bare) n)) in
       let in_place : may_occur_at One m s u no_elements ≡ true =
@@ -281,7 +281,7 @@ module _ (t : List ℕ) (Joins : Type 0) (m : Bool) where
       → is_nonblank (At from to) ≡ true →
       IsWellPlaced m s (elements (text_element (slice_range t from (trimmed_end t from to))) no_elements)
   last_of_step s s' from to (runs u e p n b) k =
-      last_text_is_well_placed s u false from to (e ∙ sym (append_of_nothing_is_same u)) p b k
+      last_text_is_well_placed s u false from to (e ∙ sym (append-nil u)) p b k
   last_of_step s s' from to (ends_line u e p b) k = last_text_is_well_placed s u true from to e p b k
   last_of_step s s' from to (blank_line u e f) k = absurd (blank_line_is_not_nonblank (At from to) u e f k)
   last_of_step s s' from to (joins e j) k = absurd (blank_line_is_not_nonblank (At from to) [] e refl k)

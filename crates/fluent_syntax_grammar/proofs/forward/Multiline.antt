@@ -1,6 +1,7 @@
 -- The elements of a multiline pattern are read back, if its placeables are.
 use Rattle.std.proofs.Common.{◌≡◌, ℕ, ◌+◌, ◌*◌, ◌-◌, ◌≤◌, min, List, [], ◌∷◌, ◌++◌, length, map, Option, Some}
 use Rattle.std.proofs.Common.{None, Bool, true, false, refl, sym, ◌∙◌, subst, ap, append_assoc, length-append, arith}
+use Rattle.std.proofs.Common.{append-nil}
 use Rattle.std.proofs.lemmas.Bool.{false≢true}
 use Rattle.std.specs.Prelude.{◌==◌, ◌||◌, ◌&&◌, not, if◌then◌else◌}
 use Rattle.std.specs.List.{list_all, list_any}
@@ -361,10 +362,6 @@ second_of_passing_append_passes p [] ys e = e
 second_of_passing_append_passes p (x ∷ xs) ys e =
     second_of_passing_append_passes p xs ys (and_gives_right (p x) (list_all p (xs ++ ys)) e)
 
-pub appended_nothing_leaves_list : (xs : List ℕ) → xs ++ [] ≡ xs
-appended_nothing_leaves_list [] = refl
-appended_nothing_leaves_list (x ∷ xs) = ap (λ xs. x ∷ xs) (appended_nothing_leaves_list xs)
-
 pub last_of-gap : (gap : List ℕ) (b : ℕ) (bs : List ℕ) → last_of None (gap ++ (b ∷ bs)) ≡ last_of None (b ∷ bs)
 last_of-gap gap b bs = last_of_append_is_of_second gap None b bs
 
@@ -690,7 +687,7 @@ module _ (edition : Edition) (t : List ℕ) (level : ℕ) (common : Option ℕ) 
 
       alone_at : (gap more : List ℕ) → v ≡ gap ++ more → list_all is_space gap ≡ true →
           holds is_space (first more) ≡ false → StartsOf (elements (text_element v) es)
-      alone_at gap [] is c e = spaces_alone (ap (list_all is_space) (is ∙ appended_nothing_leaves_list gap) ∙ c)
+      alone_at gap [] is c e = spaces_alone (ap (list_all is_space) (is ∙ append-nil gap) ∙ c)
       alone_at gap (b ∷ bs) is c e = shown_text_alone_starts_line v es g f mid a gap b bs is c e
 
       alone_of : Split v → StartsOf (elements (text_element v) es)
@@ -751,7 +748,7 @@ module _ (edition : Edition) (t : List ℕ) (level : ℕ) (common : Option ℕ) 
 
       line_at : (gap more : List ℕ) → body ≡ gap ++ more → list_all is_space gap ≡ true →
           holds is_space (first more) ≡ false → StartsOf (elements (text_element v) (elements d es))
-      line_at gap [] e s n = blank_line_of gap (is ∙ ap (λ v. v ++ (lf ∷ [])) (e ∙ appended_nothing_leaves_list gap)) s
+      line_at gap [] e s n = blank_line_of gap (is ∙ ap (λ v. v ++ (lf ∷ [])) (e ∙ append-nil gap)) s
       line_at gap (b ∷ bs) e s n = shown_line gap b bs e s n
 
       line_of_split : Split body → StartsOf (elements (text_element v) (elements d es))

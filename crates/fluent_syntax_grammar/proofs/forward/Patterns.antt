@@ -1,6 +1,6 @@
 -- Multiline patterns are read back, if their placeables are.
 use Rattle.std.proofs.Common.{◌≡◌, ℕ, zero, suc, ◌+◌, ◌*◌, ◌≤◌, List, [], ◌∷◌, ◌++◌, length, map, Option, Some, None}
-use Rattle.std.proofs.Common.{Bool, true, false, refl, sym, ◌∙◌, subst, ap, append_assoc, arith}
+use Rattle.std.proofs.Common.{Bool, true, false, refl, sym, ◌∙◌, subst, ap, append_assoc, arith, append-nil}
 use Rattle.std.proofs.lemmas.Bool.{false≢true}
 use Rattle.std.specs.Prelude.{replicate, option_map, ◌||◌, ◌&&◌, not}
 use Rattle.std.specs.List.{flat_map, list_all, list_any}
@@ -50,7 +50,6 @@ use Rattle.fluent_syntax_grammar.proofs.forward.Multiline.{text_with_lf_ends_not
 use Rattle.fluent_syntax_grammar.proofs.forward.Multiline.{spaces_and_lf_are_not_spaces}
 use Rattle.fluent_syntax_grammar.proofs.forward.Runs.{lf_is_taken_off}
 use Rattle.fluent_syntax_grammar.proofs.forward.Multiline.{text_of_spaces_is_blank, no_lf_ends_run, last_of-gap}
-use Rattle.fluent_syntax_grammar.proofs.forward.Multiline.{appended_nothing_leaves_list}
 use Rattle.fluent_syntax_grammar.proofs.forward.Multiline.{rest_of_run_is_run, no_text_follows_text_without_lf}
 use Rattle.fluent_syntax_grammar.proofs.forward.Multiline.{text_element_is_text, text_of_elements_may_occur}
 use Rattle.fluent_syntax_grammar.proofs.forward.Multiline.{text_may_precede_what_follows}
@@ -287,14 +286,14 @@ module _ (edition : Edition) (t : List ℕ) (level : ℕ) (common : Option ℕ) 
       (elements_after_text_are_elements edition t level common tail rest ends deep opening v
       (elements (text_element w) es) g))
   no_block_is_before_lone_text v no_elements i g a gap [] is c s l =
-      let all : is_spaces v ≡ true = ap is_spaces (is ∙ appended_nothing_leaves_list gap) ∙ c in
+      let all : is_spaces v ≡ true = ap is_spaces (is ∙ append-nil gap) ∙ c in
       let d =
       indenting_text_is_spaces edition v no_elements
       (second_of_or_is_true (is_nonblank v) _ (text_of_spaces_is_blank v all)
       (text_of_elements_may_occur edition t level common tail rest ends deep opening v no_elements g)) in
       absurd (false≢true d.1)
   no_block_is_before_lone_text v (elements (placeable x) es) i g a gap [] is c s l =
-      let all : is_spaces v ≡ true = ap is_spaces (is ∙ appended_nothing_leaves_list gap) ∙ c in
+      let all : is_spaces v ≡ true = ap is_spaces (is ∙ append-nil gap) ∙ c in
       let are =
       ap (λ b. indent level ++
       (v ++
@@ -324,7 +323,7 @@ module _ (edition : Edition) (t : List ℕ) (level : ℕ) (common : Option ℕ) 
       (rest_of_run_is_run edition t level common tail rest ends deep body gap b bs e a) (rw safe refl)
       (suffix_by_equality (ap (λ xs. indent level ++ xs) are) l)
   no_block_is_before_first_text_line v d es body i g is a c gap [] e s n l =
-      let whole : v ≡ gap ++ (lf ∷ []) = is ∙ ap (λ v. v ++ (lf ∷ [])) (e ∙ appended_nothing_leaves_list gap) in
+      let whole : v ≡ gap ++ (lf ∷ []) = is ∙ ap (λ v. v ++ (lf ∷ [])) (e ∙ append-nil gap) in
       let blank : is_nonblank v ≡ false =
       ap is_nonblank whole ∙ ap (list_any (λ b. not (is_space b))) (lf_is_taken_off gap) ∙ gap_is_blank gap s in
       let d =

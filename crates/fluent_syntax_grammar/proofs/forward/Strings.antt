@@ -132,7 +132,8 @@ module _ {t : List ℕ} where
       elim (or_has_true_side ((c == 92 || c == 34 || c == 123) && is_units zero cs || c == 117 && is_units 4 cs)
       (c == 85 && is_units 6 cs) f) [
         | inl g ↦
-            elim (or_has_true_side ((c == 92 || c == 34 || c == 123) && is_units zero cs) (c == 117 && is_units 4 cs) g) [
+            elim (or_has_true_side ((c == 92 || c == 34 || c == 123) && is_units zero cs)
+            (c == 117 && is_units 4 cs) g) [
               | inl p ↦ unit_before_units_is_passed x (ap (λ b. b == 34) e)
                   (escape_is_passed_as_unit e x
                   (first_branch_reads (and_gives_left (c == 92 || c == 34 || c == 123) (is_units zero cs) p)

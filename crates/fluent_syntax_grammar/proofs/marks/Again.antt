@@ -1,5 +1,5 @@
 -- Written again: canonical trees are written apart, and what a text is read as is written alike once it is joined.
-use Rattle.std.proofs.Common.{◌≡◌, ℕ, List, [], ◌∷◌, Bool, None, true, false, sym, ◌∙◌, subst, ap, map}
+use Rattle.std.proofs.Common.{◌≡◌, ℕ, List, [], ◌∷◌, Bool, None, true, false, sym, ◌∙◌, subst, ap, map, append-nil}
 use Rattle.std.specs.List.{flat_map}
 use Rattle.fluent_syntax_tree.specs.Entry.{message, term, comment, junk, BodyTree, body_map, message_map, term_map}
 use Rattle.fluent_syntax_tree.specs.Spans.{bytes_at}
@@ -13,7 +13,6 @@ use Rattle.fluent_syntax_grammar.specs.Written.{Text, text_after, message_marks,
 use Rattle.fluent_syntax_grammar.specs.Written.{hashes_of, body_marks, written}
 use Rattle.fluent_syntax_grammar.specs.Joined.{joined_message, joined_term, joined_body}
 use Rattle.fluent_syntax_grammar.specs.RoundTrip.{ReadsAs, tree_of, WrittenApart, WrittenAgain}
-use Rattle.fluent_syntax_grammar.proofs.Facts.{append_of_nothing_is_same}
 use Rattle.fluent_syntax_grammar.proofs.OneTiling.{tilings_of_text_are_same}
 use Rattle.fluent_syntax_grammar.proofs.JunkAndSpans.{junk_is_where_errors_are}
 use Rattle.fluent_syntax_grammar.proofs.marks.Entries.{written_is_read_back}
@@ -66,8 +65,8 @@ module _ (t : List ℕ) where
   body_without_junk_is_written_as_joined es h =
       let xs = body_marks false false (body_map (bytes_at t) es) in
       let ys = body_marks false false (joined_body (body_map (bytes_at t) es)) in
-      sym (ap (text_after None) (sym (append_of_nothing_is_same xs))
-      ∙ (body_without_junk_has_text_of_joined es false h None [] ∙ ap (text_after None) (append_of_nothing_is_same ys)))
+      sym (ap (text_after None) (sym (append-nil xs))
+      ∙ (body_without_junk_has_text_of_joined es false h None [] ∙ ap (text_after None) (append-nil ys)))
 
   faultless_tiles_have_no_junk : (tiles : List Tile) → Tiling One t tiles → faults tiles ≡ [] →
       flat_map junk_slice (body tiles) ≡ []

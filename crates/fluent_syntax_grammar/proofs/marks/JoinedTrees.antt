@@ -1,6 +1,6 @@
 -- A tree and its joined tree are written as the same text.
 use Rattle.std.proofs.Common.{◌≡◌, ℕ, zero, suc, ◌+◌, ◌*◌, List, [], ◌∷◌, ◌++◌, replicate, map, Option, Some, None}
-use Rattle.std.proofs.Common.{Bool, true, false, refl, sym, ◌∙◌, subst, ap, append_assoc}
+use Rattle.std.proofs.Common.{Bool, true, false, refl, sym, ◌∙◌, subst, ap, append_assoc, append-nil}
 use Rattle.std.specs.Prelude.{◌==◌, not, codes, if◌then◌else◌, option_map}
 use Rattle.fluent_syntax_tree.specs.Tree.{KeyTree, ExpressionTree, select, inline, InlineTree, string_literal}
 use Rattle.fluent_syntax_tree.specs.Tree.{number_literal, function_reference, message_reference, term_reference}
@@ -31,7 +31,7 @@ use Rattle.fluent_syntax_grammar.specs.Joined.{joined_arguments, joined_inlines,
 use Rattle.fluent_syntax_grammar.specs.Joined.{joined_variants, joined_pattern, joined_after, joined_attribute}
 use Rattle.fluent_syntax_grammar.specs.Joined.{joined_message, joined_term, joined_body}
 use Rattle.fluent_syntax_grammar.specs.RoundTrip.{ReadsBackJoined}
-use Rattle.fluent_syntax_grammar.proofs.Facts.{and_gives_left, and_gives_right, same_by_test, append_of_nothing_is_same}
+use Rattle.fluent_syntax_grammar.proofs.Facts.{and_gives_left, and_gives_right, same_by_test}
 use Rattle.fluent_syntax_grammar.proofs.forward.Bodies.{IsWritten, nothing, a_message, a_term, a_comment}
 use Rattle.fluent_syntax_grammar.proofs.forward.Bodies.{canonical_body_reads_back}
 use Rattle.fluent_syntax_grammar.proofs.marks.WrittenBytes.{line_indent}
@@ -124,7 +124,7 @@ empty_literal_is_written false n last ms e = rw e refl
 empty_literal_is_written true zero last ms e = rw e refl
 empty_literal_is_written true (suc n) last ms e =
     rw (
-      append_of_nothing_is_same (replicate n space),
+      append-nil (replicate n space),
       spaces_end_in_no_lf n,
       last_of_append_is_of_second (replicate n space) (Some space) lf [],
     )

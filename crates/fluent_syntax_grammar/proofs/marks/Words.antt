@@ -53,7 +53,8 @@ number_rest_has_number_bytes [] e = refl
 number_rest_has_number_bytes (b ∷ v) e =
     elim (or_has_true_side (is_digit b && is_number_rest v) (b == 46 && is_digits v) e) [
       | inl f ↦
-          true_and_true (true_by_left (is_digit b) (b == 46 || b == 45) (and_gives_left (is_digit b) (is_number_rest v) f))
+          true_and_true (true_by_left (is_digit b) (b == 46 || b == 45)
+          (and_gives_left (is_digit b) (is_number_rest v) f))
           (number_rest_has_number_bytes v (and_gives_right (is_digit b) (is_number_rest v) f))
       | inr f ↦ true_and_true
           (true_by_right (is_digit b) (b == 46 || b == 45) (true_by_left (b == 46) (b == 45)
@@ -120,13 +121,16 @@ mutual
             has_lf-cons b bs (parted_by_test (λ c. c == 85) b lf (and_gives_left (b == 85) (is_units 6 bs) f) refl)
             (string_units_have_no_lf bs 6 (and_gives_right (b == 85) (is_units 6 bs) f))
         | inl g ↦
-            elim (or_has_true_side ((b == 92 || b == 34 || b == 123) && is_units zero bs) (b == 117 && is_units 4 bs) g) [
+            elim (or_has_true_side ((b == 92 || b == 34 || b == 123) && is_units zero bs)
+            (b == 117 && is_units 4 bs) g) [
               | inl f ↦ has_lf-cons b bs
                   (parted_by_test (λ c. c == 92 || c == 34 || c == 123) b lf
                   (and_gives_left (b == 92 || b == 34 || b == 123) (is_units zero bs) f) refl)
-                  (string_units_have_no_lf bs zero (and_gives_right (b == 92 || b == 34 || b == 123) (is_units zero bs) f))
+                  (string_units_have_no_lf bs zero
+                  (and_gives_right (b == 92 || b == 34 || b == 123) (is_units zero bs) f))
               | inr f ↦
-                  has_lf-cons b bs (parted_by_test (λ c. c == 117) b lf (and_gives_left (b == 117) (is_units 4 bs) f) refl)
+                  has_lf-cons b bs
+                  (parted_by_test (λ c. c == 117) b lf (and_gives_left (b == 117) (is_units 4 bs) f) refl)
                   (string_units_have_no_lf bs 4 (and_gives_right (b == 117) (is_units 4 bs) f))
             ]
       ]

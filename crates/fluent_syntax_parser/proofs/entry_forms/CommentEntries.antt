@@ -1,11 +1,10 @@
 -- Comments by their level.
-use Rattle.std.proofs.Common.{◌≡◌, ◌≢◌, ℕ, List, [], ◌++◌, map, ap, arith}
+use Rattle.std.proofs.Common.{◌≡◌, ◌≢◌, ℕ, List, [], ◌++◌, map, ap, arith, append-nil}
 use Rattle.std.proofs.lemmas.Bool.Decides.{nat_tests}
 use Rattle.fluent_syntax_tree.specs.Entry.{Level, comment, entry_map, resource}
 use Rattle.fluent_syntax_tree.specs.declared.spans.Span.{Span}
 use Rattle.fluent_syntax_grammar.specs.Comments.{comment_entry, comment_lines, comment_of, hashes, level_of}
 use Rattle.fluent_syntax_grammar.specs.Construct.{Read, chosen}
-use Rattle.fluent_syntax_grammar.proofs.Facts.{append_of_nothing_is_same}
 use Rattle.fluent_syntax_parser.specs.Made.{IsMade, made}
 use Rattle.fluent_syntax_parser.proofs.readers.Made.{made_was_read}
 
@@ -32,5 +31,5 @@ pub comment_of_made_lines_is_made : {S X : Type 0} {t : List ℕ} {level : ℕ} 
     X} {i j end : ℕ} {content : List S} → MadeLines t level f v i content j → comment_lines t level j (Read [] end) →
     IsMade (entry_map f) (comment_of t level) i (comment (level_of level) (map v content)) end
 comment_of_made_lines_is_made {level = level} {end = end} g h =
-    made {a = comment (level_of level) g.lines} (rw (← append_of_nothing_is_same g.lines) (g.read [] end h))
+    made {a = comment (level_of level) g.lines} (rw (← append-nil g.lines) (g.read [] end h))
     (ap (comment (level_of level)) g.same)

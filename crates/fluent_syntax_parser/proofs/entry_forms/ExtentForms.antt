@@ -1,6 +1,6 @@
 -- Where the parts of an entry are, the entry is read.
 use Rattle.std.proofs.Common.{◌≡◌, ℕ, true, false, List, [], ◌∷◌, ◌++◌, append_assoc, Option, Some, None, refl}
-use Rattle.std.proofs.Common.{sym, subst}
+use Rattle.std.proofs.Common.{sym, subst, append-nil}
 use Rattle.std.specs.Prelude.{Ok, option_map, is_some, slice_get}
 use Rattle.fluent_syntax_tree.specs.Entry.{AttributeTree, EntryTree, Level, comment}
 use Rattle.fluent_syntax_tree.specs.Kind.{Kind}
@@ -16,7 +16,6 @@ use Rattle.fluent_syntax_grammar.specs.Grammar.{family, within}
 use Rattle.fluent_syntax_grammar.specs.Places.{has_byte}
 use Rattle.fluent_syntax_grammar.specs.Tiling.{entry_at, entry_in}
 use Rattle.fluent_syntax_grammar.proofs.HoareTriple.{yields_reads_its_value_in_place}
-use Rattle.fluent_syntax_grammar.proofs.Facts.{append_of_nothing_is_same}
 use Rattle.fluent_syntax_grammar.proofs.FunctionalEntries.{entry_is_functional}
 use Rattle.fluent_syntax_grammar.proofs.Included.{IsIncluded, IsIncludedFamily, pattern_is_included, inclusions}
 use Rattle.fluent_syntax_grammar.proofs.IncludedEntries.{entry_is_included}
@@ -109,7 +108,7 @@ module _ (edition : Edition) (t : List ℕ) (R : Family) where
       (g : GathersRanges i xs j) → {from to : ℕ} → {k : Kind} → attribute_of edition t R j (Refused k from to) →
       HaveAttributeParts edition t R i xs g.items j
   gathered_ranges_are_all_at_refusal i xs j g none =
-      rw (← append_of_nothing_is_same xs, ← append_of_nothing_is_same g.items)
+      rw (← append-nil xs, ← append-nil g.items)
       (g.parts_hold [] [] j (no_attribute_parts none))
 
 -- ---- within a family that is included in another

@@ -43,8 +43,8 @@ pub record MadeOpening {S X : Type 0} (t : List ℕ) (R : Family) (f : Span → 
   pub beyond : ContinuesFrom t (λ u. next_piece t R) (λ a rest. a ∷ rest) [] tt i (λ more. pieces ++ more) tt j
 
 module _ {S X : Type 0} (t : List ℕ) (R : Family) (f : Span → X) (v : S → X) (i : ℕ) where
-  pub no_opening_is_made_at_start : MadeOpening t R f v i [] i
-  no_opening_is_made_at_start =
+  pub MadeOpening-none : MadeOpening t R f v i [] i
+  MadeOpening-none =
       record { pieces = []; settled = none; same = refl; beyond = record { read = λ b end h. h; fails = λ e h. h } }
 
   module _ (h : IsFunctional (next_piece t R)) (place to : ℕ) (w : LongestRun (is_run_place t) place to) where

@@ -1,10 +1,9 @@
 -- Lists that a loop gathers: what there is where the loop is comes where it began, after what was gathered.
-use Rattle.std.proofs.Common.{◌≡◌, ℕ, List, [], ◌∷◌, ◌++◌, append_assoc, map, ap, refl, subst, sym, ◌∙◌}
+use Rattle.std.proofs.Common.{◌≡◌, ℕ, List, [], ◌∷◌, ◌++◌, append_assoc, map, ap, refl, subst, sym, ◌∙◌, append-nil}
 use Rattle.std.proofs.lemmas.List.{map-append}
 use Rattle.fluent_syntax_grammar.specs.Construct.{Construct, Read, More, no_item, item, many, list_ends, list_stops}
 use Rattle.fluent_syntax_grammar.specs.Construct.{item_and_more, list_of, stops_later}
 use Rattle.fluent_syntax_grammar.specs.UniqueReading.{IsFunctional}
-use Rattle.fluent_syntax_grammar.proofs.Facts.{append_of_nothing_is_same}
 use Rattle.fluent_syntax_grammar.proofs.Deeper.{list_is_too_deep_by_first_item, list_is_too_deep_by_later_item}
 use Rattle.fluent_syntax_parser.specs.declared.fault.ReadFault.{ReadFault}
 use Rattle.fluent_syntax_parser.specs.Outcomes.{Fails, refused, too_deep, no_memory}
@@ -85,4 +84,4 @@ module _ {A B X : Type 0} {t : List ℕ} {next : Construct (More A (Unit {0}))} 
     pub items_made_to_end_are_list : (xs : List X) → MadeItems t next f view i xs j → next j (Read no_item m) →
         IsMade (map f) (list_of next) i (map view xs) m
     items_made_to_end_are_list xs g x =
-        made (whole_list_read g.items m g.beyond (append_of_nothing_is_same g.items) x) g.same
+        made (whole_list_read g.items m g.beyond (append-nil g.items) x) g.same

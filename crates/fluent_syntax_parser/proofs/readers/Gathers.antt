@@ -1,9 +1,8 @@
 -- Lists that a loop gathers: what the construct gives from here on, it gives from the start on, after what was
 -- gathered.
-use Rattle.std.proofs.Common.{◌≡◌, ℕ, List, [], ◌∷◌, ◌++◌, append_assoc, map, refl, sym, ap, ◌∙◌}
+use Rattle.std.proofs.Common.{◌≡◌, ℕ, List, [], ◌∷◌, ◌++◌, append_assoc, map, refl, sym, ap, ◌∙◌, append-nil}
 use Rattle.std.proofs.lemmas.List.{map-append}
 use Rattle.fluent_syntax_grammar.specs.Construct.{Construct, Read}
-use Rattle.fluent_syntax_grammar.proofs.Facts.{append_of_nothing_is_same}
 use Rattle.fluent_syntax_parser.specs.Made.{IsMade, made}
 
 -- What was gathered represents what was read, with f of each text in its place.
@@ -32,4 +31,4 @@ module _ {A B X : Type 0} (c : Construct (List A)) (f : A → B) (v : X → B) (
   -- the list ends
   pub list_made_to_end_is_whole : (xs : List X) (j end : ℕ) → MadeList c f v i xs j → c j (Read [] end) →
       IsMade (map f) c i (map v xs) end
-  list_made_to_end_is_whole xs j end g h = made (rw (← append_of_nothing_is_same g.items) (g.read [] end h)) g.same
+  list_made_to_end_is_whole xs j end g h = made (rw (← append-nil g.items) (g.read [] end h)) g.same

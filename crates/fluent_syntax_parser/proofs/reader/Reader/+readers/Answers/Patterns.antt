@@ -30,7 +30,7 @@ use Rattle.fluent_syntax_parser.proofs.readers.Fails.{jump_is_functional, memory
 use Rattle.fluent_syntax_parser.proofs.readers.Made.{made_was_read}
 use Rattle.fluent_syntax_parser.proofs.patterns.BlankLines.{block_at_no_byte_is_empty, block_before_other_line_is_empty}
 use Rattle.fluent_syntax_parser.proofs.patterns.Opening.{elements_of_pieces_are_those_of_items, EndsAt-ending_read}
-use Rattle.fluent_syntax_parser.proofs.patterns.Opening.{run_ends_line, no_opening_is_made_at_start}
+use Rattle.fluent_syntax_parser.proofs.patterns.Opening.{run_ends_line, MadeOpening-none}
 use Rattle.fluent_syntax_parser.proofs.patterns.Opening.{ending_of_opening_comes_after_its_items, none_is_no_byte}
 use Rattle.fluent_syntax_parser.proofs.patterns.Opening.{place_of_byte_has_no_other, opening_fails_with_its_next_piece}
 use Rattle.fluent_syntax_parser.proofs.patterns.Opening.{placeable_is_made_next_in_opening}
@@ -80,7 +80,7 @@ add_opening-loop-elements-init g m c = record {
   unended = sym c.eol_end.ensures.eol ∙ c.in_default.is;
   gathered =
       rw c.requires.empty
-      (no_opening_is_made_at_start c.args.self.now.source.bytes.now _ _ g.M.MakeTexts.made c.args.ptr);
+      (MadeOpening-none c.args.self.now.source.bytes.now _ _ g.M.MakeTexts.made c.args.ptr);
 }
 
 pub add_opening-loop-elements-preserved : goal.add_opening-loop-elements-preserved

@@ -10,7 +10,7 @@ use Rattle.ftl_lsp.specs.Sessions.{passes, session_of}
 use Rattle.ftl_lsp.specs.declared.documents.changes.Change.{Change}
 use Rattle.ftl_lsp.specs.declared.sessions.methods.Method.TheVariants.{DidChange}
 use Rattle.ftl_lsp.proofs.SessionLemmas.{edits_of_changes_are_read, named_document_is_open, unnamed_is_closed}
-use Rattle.ftl_lsp.proofs.SessionLemmas.{changed_text_is_published}
+use Rattle.ftl_lsp.proofs.SessionLemmas.{change_is_answered_by_diagnostics}
 use Rattle.ftl_lsp.proofs.SessionLemmas.{changing_needs_open, change_without_edits_concerns_nothing}
 use Rattle.ftl_lsp.proofs.sessions.server.Server.change.Goals as goal
 
@@ -69,7 +69,7 @@ returns-clause-follows c =
     let is_read = ap (λ (vs : List Value). edits_in (items_view vs)) (sym c.deref.ensures.value)
     ∙ sym c.in_ok-changes.ensures ∙ ap (option_map (λ changes. map edit_of changes.items)) c.in-Some-2.is
     ∙ ap (λ (cs : List Change). Some (map edit_of cs)) (sym c.deref-2.ensures.value) in
-    changed_text_is_published c.publish.result (view c.args.message.now) c.in-Some.uri.now (items_view values)
+    change_is_answered_by_diagnostics c.publish.result (view c.args.message.now) c.in-Some.uri.now (items_view values)
     (map edit_of c.deref-2.result.now) c.version_of.result c.in_ok-change.field-0 (session_of c.args.self.now)
     (record { phase = c.args.self.now.phase; texts = texts c.change.new.self }) (session_of c.publish.new.self)
     (sym c.in-Some.ensures) (sym c.in-Some-changes_in.ensures) is_read c.version_of.ensures
