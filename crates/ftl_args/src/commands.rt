@@ -56,12 +56,7 @@ fn with_conversions<'a>(alloc: Global, program: Command<'a>) -> Result<Command<'
             "Writes each file in its normal form without comments",
             "Examples:\n  ftl runtime menu.ftl > small.ftl",
         )?)?
-        .subcommand(word(
-            alloc,
-            "json",
-            "Writes the tree of each file as JSON, on one line",
-            "Examples:\n  ftl json menu.ftl > menu.json",
-        )?)?
+        .subcommand(json(alloc)?)?
         .subcommand(from_json(alloc)?)
 }
 
@@ -184,11 +179,33 @@ fn quiet<'a>(alloc: Global) -> Arg<'a> {
         .action(ArgAction::SetTrue)
 }
 
+fn json<'a>(alloc: Global) -> Result<Command<'a>, AllocError> {
+    word(
+        alloc,
+        "json",
+        "Writes the tree of each file as JSON, on one line",
+        "Examples:
+  ftl json menu.ftl > menu.json
+  ftl json --spans locales       the trees of a folder, each with its path",
+    )?
+    .arg(flag(alloc, "spans").help(
+        "Adds the file's path, where each entry and element is, and the errors of junk",
+    ))
+}
+
 fn from_json<'a>(alloc: Global) -> Result<Command<'a>, AllocError> {
     Command::new(alloc, "from-json")
         .about("Reads a tree as JSON, as `json` writes it, and writes its text")
         .after_help("Examples:\n  ftl from-json menu.json > menu.ftl")
+        .arg(flag(alloc, "with-junk").help("Writes junk too, which is left out else"))?
+        .arg(flag(alloc, "split-lines").help(
+            "Takes a text of several lines for one text a line, so that it reads back",
+        ))?
         .arg(paths(alloc, "Files of JSON, or `-`; none for standard input"))
+}
+
+fn flag<'a>(alloc: Global, name: &'a str) -> Arg<'a> {
+    Arg::new(alloc, name).long(name).action(ArgAction::SetTrue)
 }
 
 /// A word that reads Fluent files.

@@ -14,6 +14,6 @@ pub use compare_args::Compare;
 pub use lint_args::Lint;
 pub use mistakes::{mistake, status_of};
 pub use options::Options;
-pub use request::{Change, Request, Task, Work};
+pub use request::{Change, Conversion, Request, Task, Work};
 pub use requested::request_of;
 pub use usage::usage_of;

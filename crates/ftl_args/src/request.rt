@@ -49,8 +49,19 @@ pub enum Task {
     Runtime,
     /// Write its tree as JSON.
     Json,
+    /// The same with the places of entries and elements.
+    SpannedJson,
     /// Read a tree as JSON, and write its text.
-    FromJson,
+    FromJson(Conversion),
+}
+
+/// How a tree as JSON is written.
+#[derive(Clone, Copy, Debug, PartialEq, Eq)]
+pub struct Conversion {
+    /// Whether junk is written too.
+    pub with_junk: bool,
+    /// Whether a text of several lines is written as one text for each line.
+    pub splits_lines: bool,
 }
 
 /// What becomes of a formatted text.
@@ -67,7 +78,7 @@ pub enum Change {
 }
 
 impl Task {
-    /// The command of the engine that does this with a text, by the edition; `None` for what is no Fluent text.
+    /// The command of the engine that does this with a text, by the edition; `None` where none does.
     pub fn command(self, edition: Edition) -> Option<Command>
         ensures { result ≡ command_of self edition }
     {
@@ -78,7 +89,7 @@ impl Task {
             (Task::Format(_), Edition::Two) => Command::FormatTwo,
             (Task::Runtime, _) => Command::Runtime,
             (Task::Json, _) => Command::Json,
-            (Task::FromJson, _) => return None,
+            (Task::SpannedJson | Task::FromJson(_), _) => return None,
         })
     }
 }

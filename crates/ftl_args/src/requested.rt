@@ -4,7 +4,7 @@ use crate::commands::{command_line, texts_of};
 use crate::compare_args::compare_of;
 use crate::lint_args::lint_of;
 use crate::options::Options;
-use crate::request::{Change, Request, Task, Work};
+use crate::request::{Change, Conversion, Request, Task, Work};
 use clap::{ArgMatches, Error};
 use fluent_syntax_tree::edition::Edition;
 use ftl_files::{BlankLines, Color, Output, blank_lines_of_name, color_of_name, output_of_name};
@@ -52,8 +52,12 @@ fn task_of(word: &str, options: &ArgMatches<'_>) -> Task {
         "check" | "check-two" => Task::Check,
         "format" | "format-two" => Task::Format(change_of(options)),
         "runtime" => Task::Runtime,
+        "json" if options.get_flag("spans") => Task::SpannedJson,
         "json" => Task::Json,
-        _ => Task::FromJson,
+        _ => Task::FromJson(Conversion {
+            with_junk: options.get_flag("with-junk"),
+            splits_lines: options.get_flag("split-lines"),
+        }),
     }
 }
 

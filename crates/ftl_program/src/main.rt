@@ -65,7 +65,7 @@ fn answer(rt: &HostRuntime, work: Work<'_>) -> u8 {
         _ => (),
     }
     let found = match work.task {
-        Task::FromJson => no_project(rt, &work.paths),
+        Task::FromJson(_) => no_project(rt, &work.paths),
         _ => projects_of(rt, &work.excluded, &work.paths),
     };
     match found {
@@ -90,8 +90,8 @@ fn answer_projects(
 /// Answers standard input; as a file of its name where a form of files is asked for.
 fn answer_alone(rt: &HostRuntime, work: &Work<'_>) -> u8 {
     match (work.task, work.options.output) {
-        (Task::Check, Some(Output::Full | Output::Json | Output::Github)) | (Task::FromJson, _) =>
-            run_status(rt, answer_named(rt, work)),
+        (Task::Check, Some(Output::Full | Output::Json | Output::Github))
+        | (Task::SpannedJson | Task::FromJson(_), _) => run_status(rt, answer_named(rt, work)),
         _ => answer_input(rt, work),
     }
 }

@@ -10,8 +10,8 @@ use ftl_args::{Change, Options, Task, Work};
 use ftl_files::{Disk, Form, Memory, Store};
 use ftl_project::{
     CheckTask, ConvertTask, DiffTask, FormatOptions, FormatTask, NameTask, PrintTask,
-    RewriteCounts, Streams, Tally, answer_files, check_summary, format_summary, write_files,
-    write_summary,
+    RewriteCounts, SpannedJsonTask, Streams, Tally, answer_files, check_summary, format_summary,
+    write_files, write_summary,
 };
 use std::alloc::AllocError;
 use std::io;
@@ -185,6 +185,17 @@ fn run_task<S: Store>(
             let task = PrintTask { command, nesting };
             answer_files(alloc, &task, store, files, tally, &mut streams)
         }
-        (_, None) => answer_files(alloc, &ConvertTask, store, files, tally, &mut streams),
+        (Task::FromJson(conversion), _) => {
+            let task = ConvertTask {
+                with_junk: conversion.with_junk,
+                splits_lines: conversion.splits_lines,
+            };
+            answer_files(alloc, &task, store, files, tally, &mut streams)
+        }
+        (_, None) => {
+            let nesting = reading.nesting;
+            let task = SpannedJsonTask { nesting };
+            answer_files(alloc, &task, store, files, tally, &mut streams)
+        }
     }
 }

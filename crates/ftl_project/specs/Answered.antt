@@ -1,9 +1,13 @@
 -- What runs that change no file say of each text.
 use Rattle.std.specs.Prelude.{◌≡◌, ◌==◌, List, Bool, true, false, not, length}
+use Rattle.fluent_syntax_tree.specs.Entry.{BodyTree}
+use Rattle.fluent_syntax_tree.specs.declared.edition.Edition.TheVariants.{One}
 use Rattle.fluent_syntax_tree.specs.declared.errors.ParserError.{ParserError}
+use Rattle.fluent_syntax_grammar.specs.Written.{Text, written}
 use Rattle.ftl.specs.Answer.{IsAnswer}
 use Rattle.ftl.specs.Errors.{HasErrors}
-use Rattle.ftl.specs.FromJson.{IsTextOf}
+use Rattle.ftl.specs.FromJson.{IsSpelled}
+use Rattle.ftl.specs.Lossless.{is_lossless}
 use Rattle.ftl.specs.declared.command.Command.{Command}
 use Rattle.ftl.specs.declared.outcome.Outcome.{Outcome}
 use Rattle.ftl.specs.declared.outcome.Outcome.TheVariants.{Clean, SyntaxErrors}
@@ -29,7 +33,13 @@ IsPrinted command path text errors has_problems printed =
     (outcome : Outcome) × IsAnswer command text printed outcome × (errors ≡ 0)
     × (has_problems ≡ has_errors outcome)
 
--- of one that spells a tree as JSON: the tree's text
-abbrev pub IsConverted : TaskAnswers
-IsConverted path text errors has_problems converted =
-    IsTextOf text converted × (errors ≡ 0) × (has_problems ≡ false)
+-- of one that spells a tree as JSON: the text of that tree, or, if texts are split, of a tree; a problem is that the
+-- tree is not safe to write
+abbrev pub IsConverted : (with_junk splits_lines : Bool) → TaskAnswers
+IsConverted with_junk splits_lines path text errors has_problems converted =
+    (tree : BodyTree Text) × (splits_lines ≡ false → IsSpelled text tree) × (converted ≡ written with_junk tree)
+    × (errors ≡ 0) × (has_problems ≡ not (is_lossless One tree))
+
+-- of one whose tree is written with its places: nothing but that no error is counted
+abbrev pub IsOfNoError : TaskAnswers
+IsOfNoError path text errors has_problems printed = errors ≡ 0

@@ -42,6 +42,10 @@ IsUnparsed deeper Memory = Unit {0}
 IsUnparsed deeper TooDeep = deeper
 IsUnparsed deeper _ = ⊥
 
+-- Why the tree of a text was not written with its places: memory was wanted, or it nests deeper than it may.
+abbrev pub IsUnplaced : (text : List ℕ) → Fault → Type 0
+IsUnplaced text fault = IsUnparsed (Unit {0}) fault
+
 -- Why a text was not converted: memory was wanted, or it spells no tree.
 abbrev pub IsMisspelled : (text : List ℕ) → Fault → Type 0
 IsMisspelled text Memory = Unit {0}

@@ -10,7 +10,10 @@ ghost use Rattle.ftl_project.specs.declared.fault.Fault.{Fault};
 
 pub mod checking;
 pub mod converting;
+mod element_spans;
 pub mod printing;
+pub mod spanned_json;
+mod split_lines;
 
 use crate::fault::Fault;
 use crate::formatting::rewriting::read_text;

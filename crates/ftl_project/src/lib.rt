@@ -15,6 +15,7 @@ mod tally;
 pub use answering::checking::CheckTask;
 pub use answering::converting::ConvertTask;
 pub use answering::printing::PrintTask;
+pub use answering::spanned_json::SpannedJsonTask;
 pub use answering::{Answer, FileTask, answer_files};
 pub use comparing::pair::{Pair, Presence};
 pub use comparing::share::{Share, share_json, share_line};
