@@ -60,7 +60,7 @@ pub enum Task {
 pub struct Conversion {
     /// Whether junk is written too.
     pub with_junk: bool,
-    /// Whether a text of several lines is written as one text for each line.
+    /// Whether a text of several lines, in a pattern or a comment, is written as one for each line.
     pub splits_lines: bool,
 }
 

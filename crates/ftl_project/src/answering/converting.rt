@@ -23,7 +23,7 @@ use std::alloc::{AllocError, Global};
 pub struct ConvertTask {
     /// Whether junk is written too. Else it is left out, and reported.
     pub with_junk: bool,
-    /// Whether a text of several lines in a pattern is written as one text for each line.
+    /// Whether a text of several lines, in a pattern or a comment, is written as one for each line.
     pub splits_lines: bool,
 }
 

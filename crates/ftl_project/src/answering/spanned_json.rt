@@ -28,8 +28,7 @@ impl FileTask for SpannedJsonTask {
     ghost refuses = { λ _. IsUnplaced };
 
     fn answer(&self, alloc: Global, path: &str, text: String) -> Result<Answer, Fault> {
-        let text = text.as_str();
-        let (body, outcome) = match spanned_entries(alloc, text, self.nesting) {
+        let (body, outcome) = match spanned_entries(alloc, &text, self.nesting) {
             Ok(read) => read,
             Err(Halt::Memory) => return Err(Fault::Memory),
             Err(Halt::TooDeep) => return Err(Fault::TooDeep),
@@ -41,7 +40,7 @@ impl FileTask for SpannedJsonTask {
             errors: 0,
             has_problems: outcome == Outcome::SyntaxErrors,
             text: line,
-            note: outcome_note(alloc, path, text, outcome)?,
+            note: outcome_note(alloc, path, text.as_str(), outcome)?,
         })
     }
 }
@@ -49,7 +48,7 @@ impl FileTask for SpannedJsonTask {
 /// The entries of the text as JSON, each with its places, and what was found in it.
 fn spanned_entries(
     alloc: Global,
-    text: &str,
+    text: &String,
     nesting: usize,
 ) -> Result<(Vec<Value>, Outcome), Halt> {
     let options = Options {
@@ -57,11 +56,11 @@ fn spanned_entries(
         comments: Comments::Kept,
         nesting,
     };
-    let mut entries = Entries::new(text, options);
+    let mut entries = Entries::new(text.as_str(), options);
     let mut outcome = Outcome::Clean;
     let mut body = Vec::new(alloc);
     while let Some((entry, error)) = entries.next_entry(alloc)? {
-        let resolved = resolve_entry(alloc, &text, &entry)?;
+        let resolved = resolve_entry(alloc, text, &entry)?;
         let mut value = entry_value(alloc, resolved)?;
         put_span(alloc, &mut value, entries.span())?;
         put_entry_spans(alloc, text.as_bytes(), &mut value, &entry)?;
@@ -75,7 +74,7 @@ fn spanned_entries(
 }
 
 /// The JSON form of an entry.
-fn entry_value(alloc: Global, entry: Entry<&str>) -> Result<Value, AllocError> {
+fn entry_value(alloc: Global, entry: Entry<String>) -> Result<Value, AllocError> {
     let mut body = Vec::new(alloc);
     body.push(entry)?;
     let mut tree = to_value(alloc, &Resource { body })?;

@@ -4,7 +4,7 @@ use serde_json::{Value, json};
 use std::alloc::{AllocError, Global};
 use std::collections::BTreeMap;
 
-/// The form of a tree, with one text for each line of a text in a pattern.
+/// The form of a tree, with one text for each line of a text in a pattern or a comment.
 #[cycle(split)]
 pub(crate) fn with_split_lines(alloc: Global, value: &Value) -> Result<Value, AllocError> {
     match value {
@@ -25,9 +25,10 @@ pub(crate) fn with_split_lines(alloc: Global, value: &Value) -> Result<Value, Al
 fn split_items(alloc: Global, items: &Vec<Value>) -> Result<Vec<Value>, AllocError> {
     let mut split = Vec::new(alloc);
     for item in items {
-        match text_of_element(item) {
-            Some(text) => push_lines(alloc, &mut split, text)?,
-            None => split.push(with_split_lines(alloc, item)?)?,
+        match (item, text_of_element(item)) {
+            (Value::String(line), _) => push_comment_lines(alloc, &mut split, line.as_str())?,
+            (_, Some(text)) => push_lines(alloc, &mut split, text)?,
+            _ => split.push(with_split_lines(alloc, item)?)?,
         }
     }
     Ok(split)
@@ -45,6 +46,14 @@ fn text_of_element(value: &Value) -> Option<&str> {
 fn push_lines(alloc: Global, elements: &mut Vec<Value>, text: &str) -> Result<(), AllocError> {
     for line in text.split_inclusive('\n') {
         elements.push(json!(in alloc; {"type": "TextElement", "value": line})?)?;
+    }
+    Ok(())
+}
+
+/// Adds each line of a comment's text. Only comments have texts in lists.
+fn push_comment_lines(alloc: Global, lines: &mut Vec<Value>, text: &str) -> Result<(), AllocError> {
+    for line in text.split('\n') {
+        lines.push(json!(in alloc; line)?)?;
     }
     Ok(())
 }
