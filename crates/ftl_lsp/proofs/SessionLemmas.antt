@@ -1,6 +1,6 @@
 -- What a session sends for a message, and what it knows then.
 use Rattle.std.proofs.Common.{◌≡◌, ℕ, List, [], Bool, true, false, Option, Some, None, Result, Ok, Err}
-use Rattle.std.proofs.Common.{refl, sym, ap, ◌∙◌}
+use Rattle.std.proofs.Common.{◌≤◌, refl, sym, ap, ◌∙◌}
 use Rattle.std.specs.Prelude.{ℤ, ◌&&◌, ◌≢◌, ◌⊎◌}
 use Rattle.std.proofs.Common.{inl, inr, subst, true≢false, map, All, ◌++◌}
 use Rattle.std.proofs.lemmas.List.{map-append}
@@ -20,7 +20,7 @@ use Rattle.ftl_lsp.specs.Phases.{after_notification, after_request, refusal_of}
 use Rattle.ftl_lsp.specs.Replies.{Reply, IsSent, diagnosed, silence, watch, withdrawn, diagnostics_form}
 use Rattle.ftl_lsp.specs.Replies.{sends_diagnostics, sends_none, sends_withdrawal}
 use Rattle.ftl_lsp.specs.Diagnostics.{DiagnosesText, shown}
-use Rattle.ftl_lsp.specs.DiagnosticForms.{IsLintDiagnostic, PublishesDiagnostics, error_form}
+use Rattle.ftl_lsp.specs.DiagnosticForms.{IsLintDiagnostic, PublishesDiagnostics, count_list, error_form}
 use Rattle.ftl_lsp.specs.declared.diagnostics.Diagnostic.{Diagnostic}
 use Rattle.ftl_lsp.specs.Sessions.{SendsForMessage, SendsForNotification, SendsForRequest, SendsWhileRunning}
 use Rattle.ftl_lsp.specs.Sessions.{Finds, HandlesNotification, RefusesFor, Republishes, fits}
@@ -110,47 +110,55 @@ unopened_document_is_unpublished old mid uri same none =
     subst at same (subst (λ (o : Option OpenText). IsSent (published uri o) None) none sends_none)
 
 pub open_text_is_published : (old mid : Session) (uri : List ℕ) (found : OpenText) (value : Data) (list : List Data) →
-    mid ≡ old → Some found ≡ mid.texts uri → value ≡ diagnostics_form uri list →
+    mid ≡ old → Some found ≡ mid.texts uri → value ≡ diagnostics_form uri found.version list →
     PublishesDiagnostics uri found.text list → IsSent (published uri (old.texts uri)) (Some value)
 open_text_is_published old mid uri found value list same open' is publishes_all =
     let at : Session → Type 0 = λ s. IsSent (published uri (s.texts uri)) (Some value) in
-    let sent = equal_value_is_sent (diagnosed uri found.text) value _ is
-    (sends_diagnostics uri found.text list publishes_all) in
+    let sent = equal_value_is_sent (diagnosed uri found) value _ is
+    (sends_diagnostics uri found list publishes_all) in
     subst at same (subst (λ (o : Option OpenText). IsSent (published uri o) (Some value)) open' sent)
 
--- what is reported of a document: its errors, and then what is reported with them
+-- what is reported of a document: its errors, then what is reported with them, and how many there are more
 pub diagnostics_of_text_are_published : (uri t : List ℕ) (takes_related : Bool) (errors : List Diagnostic)
-    (values others all : List Value) → ∥ DiagnosesText t (map shown errors) ∥₁ →
-    map view values ≡ map (error_form uri takes_related) errors →
-    All IsLintDiagnostic (map view others) → all ≡ values ++ others → PublishesDiagnostics uri t (map view all)
-diagnostics_of_text_are_published uri t takes_related errors values others all diagnoses stated lint_diagnostics is =
+    (more_errors more : ℕ) (values others count after all : List Value) →
+    ∥ DiagnosesText t (map shown errors) more_errors ∥₁ → map view values ≡ map (error_form uri takes_related) errors →
+    All IsLintDiagnostic (map view others) → map view count ≡ count_list more → more_errors ≤ more →
+    after ≡ others ++ count → all ≡ values ++ after → PublishesDiagnostics uri t (map view all)
+diagnostics_of_text_are_published uri t takes_related errors more_errors more values others count after all diagnoses
+    stated lint_diagnostics counted counts_errors followed is =
     record {
       takes_related = takes_related;
       errors = errors;
+      more_errors = more_errors;
       diagnoses = diagnoses;
       others = map view others;
       lint_diagnostics = lint_diagnostics;
-      publishes_each = ap (map view) is ∙ map-append view values others ∙ ap (λ l. l ++ map view others) stated;
+      more = more;
+      counts_errors = counts_errors;
+      publishes_each =
+          ap (map view) is ∙ map-append view values after ∙ ap (λ l. l ++ map view after) stated
+          ∙ ap (λ l. map (error_form uri takes_related) errors ++ l)
+          (ap (map view) followed ∙ map-append view others count ∙ ap (λ l. map view others ++ l) counted);
     }
 
 -- that there are none any more
 pub empty_list_withdraws_diagnostics : (uri : List ℕ) (value : Data) (list : List Data) →
-    value ≡ diagnostics_form uri list → list ≡ [] → IsSent (withdrawn uri) (Some value)
+    value ≡ diagnostics_form uri None list → list ≡ [] → IsSent (withdrawn uri) (Some value)
 empty_list_withdraws_diagnostics uri value list is none =
-    equal_value_is_sent (withdrawn uri) value _ (is ∙ ap (diagnostics_form uri) none) (sends_withdrawal uri)
+    equal_value_is_sent (withdrawn uri) value _ (is ∙ ap (diagnostics_form uri None) none) (sends_withdrawal uri)
 
 -- the diagnostics of a document that is open are reported, after what was done before
 pub diagnosed_document_is_sent_while_running : {Y : Type 0} (r : Result (Option Value) Y)
     (old : List ℕ → Option OpenText) (d : Data)
     (method : Option Method) (uri : List ℕ) (found : OpenText) (mid new : Session) → mid.texts uri ≡ Some found →
     ((texts : List ℕ → Option OpenText) → texts ≡ mid.texts
-    → HandlesNotification old d method (diagnosed uri found.text) texts) →
+    → HandlesNotification old d method (diagnosed uri found) texts) →
     OnOk r (new ≡ mid) → IfOk r (λ sent. IsSent (published uri (mid.texts uri)) (option_map view sent)) →
     IfOk r (λ sent. SendsWhileRunning old d method (option_map view sent) new.texts)
 diagnosed_document_is_sent_while_running r old d method uri found mid new open' follows same sent =
     IfOk-with r _ _ _
     (λ e x h. (
-      diagnosed uri found.text,
+      diagnosed uri found,
       subst (λ (o : Option OpenText). IsSent (published uri o) (option_map view x)) open' h,
       follows new.texts (ap (λ s. s.texts) e),
     ))
@@ -169,10 +177,13 @@ opened_text_is_published r d uri text version old mid new named stated numbered 
     diagnosed_document_is_sent_while_running r old.texts d (Some DidOpen) uri
     (record { text = text; version = version }) mid new
     (document_that_is_set_is_open old.texts mid.texts uri _ sets)
-    (λ now e. opens uri text now named stated
+    (λ now e. subst
+    (λ (n : Option ℤ). HandlesNotification old.texts d (Some DidOpen)
+    (diagnosed uri (record { text = text; version = n })) now) (sym numbered)
+    (opens uri text now named stated
     (subst
     (λ (t : List ℕ → Option OpenText). Sets old.texts uri (Some (record { text = text; version = version_in d })) t)
-    (sym e) made))
+    (sym e) made)))
     same sent
 
 -- a document that was changed
@@ -199,7 +210,7 @@ saving_is_answered_by_diagnostics : (old new : List ℕ → Option OpenText) (d 
     (found : Option OpenText) → old uri ≡ found → uri_in d ≡ Some uri → new ≡ old → IsSent (published uri found) sent →
     SendsWhileRunning old d (Some DidSave) sent new
 saving_is_answered_by_diagnostics old new d uri sent (Some found) open' named same is =
-    (diagnosed uri found.text, is, saves uri found new named open' same)
+    (diagnosed uri found, is, saves uri found new named open' same)
 saving_is_answered_by_diagnostics old new d uri sent None open' named same is =
     (silence, is, passes (Some DidSave) new (named_document_is_open old d uri named ∙ ap is_some open') same)
 

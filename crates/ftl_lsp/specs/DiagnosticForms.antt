@@ -1,5 +1,6 @@
 -- What is reported of a document, as JSON values.
-use Rattle.std.specs.Prelude.{◌≡◌, ℕ, List, [], ◌∷◌, ◌++◌, map, codes, string_bytes, All}
+use Rattle.std.specs.Prelude.{◌≡◌, ◌==◌, ◌≤◌, if◌then◌else◌, ℕ, List, [], ◌∷◌, ◌++◌, map, codes, string_bytes, All}
+use Rattle.std.specs.Fmt.{decimal}
 use Rattle.std.specs.Prelude.{Bool, true, false, Option, Some, None}
 use Rattle.std.specs.Global.{Global}
 use Rattle.std.specs.declared.string.String.{String}
@@ -18,6 +19,7 @@ use Rattle.ftl_lsp.specs.Locations.{range_form}
 use Rattle.ftl_lsp.specs.declared.diagnostics.Diagnostic.{Diagnostic}
 use Rattle.ftl_lsp.specs.declared.diagnostics.RelatedNote.{RelatedNote}
 use Rattle.ftl_lsp.specs.declared.documents.positions.PositionRange.{PositionRange}
+use Rattle.ftl_lsp.specs.declared.documents.positions.Position.{Position}
 use Rattle.ftl_lsp.specs.declared.diagnostics.diagnostic_forms.LintDiagnosticKind.{LintDiagnosticKind}
 use Rattle.ftl_lsp.specs.declared.diagnostics.diagnostic_forms.LintDiagnosticKind.TheVariants.{Difference, Finding}
 
@@ -46,6 +48,10 @@ related_form uri range message =
     object (member (codes "location")
     (object (member (codes "range") (range_form range.start range.end) (member (codes "uri") (string uri) no_members)))
     (member (codes "message") (string message) no_members))
+
+-- where a text begins
+abbrev pub begin : PositionRange
+begin = record { start = record { line = 0; character = 0 }; end = record { line = 0; character = 0 } }
 
 -- ---- of errors
 
@@ -99,12 +105,23 @@ pub data IsLintDiagnostic : Data → Type 0 where
       (positions : Data) →
       IsLintDiagnostic (diagnostic_with_related range (severity_of levels kind) (code_of kind) message positions)
 
--- The list has a diagnostic for each error of the text, in order, and after them those of findings and differences. The
--- other places of errors are in the document with the name.
+-- how many diagnostics are not published, in a sentence
+abbrev pub more_sentence : ℕ → List ℕ
+more_sentence n = decimal n ++ codes " more are not shown"
+
+-- the diagnostic at the text's begin that says so, if there are some
+abbrev pub count_list : ℕ → List Data
+count_list n = if n == 0 then [] else diagnostic_form begin Warning (codes "more") (more_sentence n) ∷ []
+
+-- The list has a diagnostic for each of the first errors of the text, in order, and after them those of findings and
+-- differences, and of how many there are more of either. The other places of errors are in the document with the name.
 pub record PublishesDiagnostics (uri t : List ℕ) (list : List Data) : Type 0 where
   pub takes_related : Bool
   pub errors : List Diagnostic
-  pub diagnoses : ∥ DiagnosesText t (map shown errors) ∥₁
+  pub more_errors : ℕ
+  pub diagnoses : ∥ DiagnosesText t (map shown errors) more_errors ∥₁
   pub others : List Data
   pub lint_diagnostics : All IsLintDiagnostic others
-  pub publishes_each : list ≡ map (error_form uri takes_related) errors ++ others
+  pub more : ℕ
+  pub counts_errors : more_errors ≤ more
+  pub publishes_each : list ≡ map (error_form uri takes_related) errors ++ others ++ count_list more

@@ -1,5 +1,5 @@
 -- What is shown of the errors of a text.
-use Rattle.std.specs.Prelude.{◌≡◌, ◌⊎◌, ◌<◌, ℕ, min, max, List, [], ◌∷◌, length, map, codes}
+use Rattle.std.specs.Prelude.{◌≡◌, ◌⊎◌, ◌-◌, ◌<◌, ℕ, min, max, take, List, [], ◌∷◌, length, map, codes}
 use Rattle.fluent_syntax_tree.specs.Kind.{kind_name, kind_of}
 use Rattle.fluent_syntax_tree.specs.declared.edition.Edition.TheVariants.{One}
 use Rattle.fluent_syntax_tree.specs.declared.errors.ParserError.{ParserError}
@@ -8,7 +8,7 @@ use Rattle.fluent_syntax_grammar.specs.Nesting.{NestsDeeper}
 use Rattle.fluent_syntax_grammar.specs.Tiling.{Fault, Tile, Tiling}
 use Rattle.ftl_lsp.specs.Positions.{position_at}
 use Rattle.ftl_lsp.specs.declared.diagnostics.Diagnostic.{Diagnostic}
-use Rattle.ftl_lsp.specs.declared.limits.TheConstants.{NESTING_LIMIT}
+use Rattle.ftl_lsp.specs.declared.limits.TheConstants.{DIAGNOSTICS_LIMIT, NESTING_LIMIT}
 use Rattle.ftl_lsp.specs.declared.documents.positions.Position.{Position}
 
 -- where something is shown, and the name of its kind
@@ -42,10 +42,10 @@ deep_diagnostic = record {
   code = codes "TooDeep";
 }
 
--- One for each fault of the tiling, in order, of a text that nests no deeper than the limit; a lone one of a text that
--- nests deeper, which has more bytes than the limit.
-abbrev pub DiagnosesText : List ℕ → List Shown → Type 0
-DiagnosesText t found =
-    ((tiles : List Tile) × Tiling One t tiles × (found ≡ map (fault_shown t) (faults tiles)) ×
-    (NestsDeeper One t NESTING_LIMIT → ⊥)) ⊎
-    ((found ≡ deep_diagnostic ∷ []) × (NESTING_LIMIT < length t) × NestsDeeper One t NESTING_LIMIT)
+-- One for each of the first faults of the tiling, in order, of a text that nests no deeper than the limit, and how many
+-- faults there are besides; a lone one of a text that nests deeper, which has more bytes than the limit.
+abbrev pub DiagnosesText : List ℕ → List Shown → (more : ℕ) → Type 0
+DiagnosesText t found more =
+    ((tiles : List Tile) × Tiling One t tiles × (found ≡ map (fault_shown t) (take DIAGNOSTICS_LIMIT (faults tiles))) ×
+    (more ≡ length (faults tiles) - DIAGNOSTICS_LIMIT) × (NestsDeeper One t NESTING_LIMIT → ⊥)) ⊎
+    ((found ≡ deep_diagnostic ∷ []) × (more ≡ 0) × (NESTING_LIMIT < length t) × NestsDeeper One t NESTING_LIMIT)

@@ -1,10 +1,11 @@
 -- What a server sends: the kinds of replies, and their JSON values.
-use Rattle.std.specs.Prelude.{ℕ, List, [], codes, Option, Some, None}
-use Rattle.serde_json.specs.Data.{Data, number, string, array, object, member, no_members}
+use Rattle.std.specs.Prelude.{ℕ, ℤ, List, [], codes, Option, Some, None}
+use Rattle.serde_json.specs.Data.{Data, Members, number, string, array, object, member, no_members}
 use Rattle.serde_json.specs.Find.{of_integer}
 use Rattle.serde_json.specs.View.{items_of}
 use Rattle.ftl_lsp.specs.Phases.{number_of, text_of}
 use Rattle.ftl_lsp.specs.DiagnosticForms.{PublishesDiagnostics}
+use Rattle.ftl_lsp.specs.OpenDocuments.{OpenText}
 use Rattle.ftl_lsp.specs.declared.sessions.phases.ErrorCode.{ErrorCode}
 
 -- What is sent for a message.
@@ -13,8 +14,8 @@ pub data Reply : Type 0 where
   -- the answer to the request with the identifier, or its refusal
   answered : (id result : Data) → Reply
   refused : (id : Data) → ErrorCode → Reply
-  -- the diagnostics of the document with the name and the text
-  diagnosed : (uri text : List ℕ) → Reply
+  -- the diagnostics of the document that is open under the name
+  diagnosed : (uri : List ℕ) → OpenText → Reply
   -- that there are none any more
   withdrawn : (uri : List ℕ) → Reply
   -- the request to watch files
@@ -35,14 +36,20 @@ refusal_form id code =
     object (member (codes "error") (error_form code) (member (codes "id") id
     (member (codes "jsonrpc") (string (codes "2.0")) no_members)))
 
-abbrev pub diagnostics_form : (uri : List ℕ) → List Data → Data
-diagnostics_form uri diagnostics =
+-- of the document in that version, if it has one
+abbrev pub version_member : Option ℤ → Members
+version_member None = no_members
+version_member (Some version) = member (codes "version") (number (of_integer version)) no_members
+
+abbrev pub diagnostics_params : (uri : List ℕ) → (version : Option ℤ) → (diagnostics : Data) → Data
+diagnostics_params uri version diagnostics =
+    object (member (codes "diagnostics") diagnostics (member (codes "uri") (string uri) (version_member version)))
+
+abbrev pub diagnostics_form : (uri : List ℕ) → (version : Option ℤ) → List Data → Data
+diagnostics_form uri version diagnostics =
     object (member (codes "jsonrpc") (string (codes "2.0"))
     (member (codes "method") (string (codes "textDocument/publishDiagnostics"))
-    (member (codes "params")
-    (object (member (codes "diagnostics") (array (items_of diagnostics))
-    (member (codes "uri") (string uri) no_members)))
-    no_members)))
+    (member (codes "params") (diagnostics_params uri version (array (items_of diagnostics))) no_members)))
 
 -- the request to be notified of something, by what it asks for
 abbrev pub register_form : (params : Data) → Data
@@ -57,7 +64,7 @@ pub data IsSent : Reply → Option Data → Type 0 where
   sends_none : IsSent silence None
   sends_answer : (id result : Data) → IsSent (answered id result) (Some (answer_form id result))
   sends_refusal : (id : Data) (code : ErrorCode) → IsSent (refused id code) (Some (refusal_form id code))
-  sends_diagnostics : (uri text : List ℕ) (list : List Data) → PublishesDiagnostics uri text list →
-      IsSent (diagnosed uri text) (Some (diagnostics_form uri list))
-  sends_withdrawal : (uri : List ℕ) → IsSent (withdrawn uri) (Some (diagnostics_form uri []))
+  sends_diagnostics : (uri : List ℕ) (found : OpenText) (list : List Data) → PublishesDiagnostics uri found.text list →
+      IsSent (diagnosed uri found) (Some (diagnostics_form uri found.version list))
+  sends_withdrawal : (uri : List ℕ) → IsSent (withdrawn uri) (Some (diagnostics_form uri None []))
   sends_watch : (params : Data) → IsSent watch (Some (register_form params))

@@ -93,22 +93,22 @@ module _ (old : List ℕ → Option OpenText) (d : Data) where
   pub data HandlesNotification : Option Method → Reply → (new : List ℕ → Option OpenText) → Type 0 where
     opens : (uri text : List ℕ) (new : List ℕ → Option OpenText) → uri_in d ≡ Some uri →
         opened_text_in d ≡ Some text → Sets old uri (Some (record { text = text; version = version_in d })) new →
-        HandlesNotification (Some DidOpen) (diagnosed uri text) new
+        HandlesNotification (Some DidOpen) (diagnosed uri (record { text = text; version = version_in d })) new
     changes : (uri : List ℕ) (items : Items) (edits : List Edit) (before after : OpenText)
         (new : List ℕ → Option OpenText) → uri_in d ≡ Some uri → changes_in d ≡ Some items →
         edits_in items ≡ Some edits → old uri ≡ Some before → MakesOpen before (version_in d) edits after →
-        Sets old uri (Some after) new → HandlesNotification (Some DidChange) (diagnosed uri after.text) new
+        Sets old uri (Some after) new → HandlesNotification (Some DidChange) (diagnosed uri after) new
     closes : (uri : List ℕ) (new : List ℕ → Option OpenText) → uri_in d ≡ Some uri → is_some (old uri) ≡ true →
         Sets old uri None new → HandlesNotification (Some DidClose) (withdrawn uri) new
     saves : (uri : List ℕ) (found : OpenText) (new : List ℕ → Option OpenText) → uri_in d ≡ Some uri →
-        old uri ≡ Some found → new ≡ old → HandlesNotification (Some DidSave) (diagnosed uri found.text) new
+        old uri ≡ Some found → new ≡ old → HandlesNotification (Some DidSave) (diagnosed uri found) new
     watches : (new : List ℕ → Option OpenText) → new ≡ old → HandlesNotification (Some Initialized) watch new
     passes : (method : Option Method) (new : List ℕ → Option OpenText) → concerns old d method ≡ false → new ≡ old →
         HandlesNotification method silence new
 
 -- the diagnostics of a document that is open, if it is
 abbrev pub published : (uri : List ℕ) → Option OpenText → Reply
-published uri (Some found) = diagnosed uri found.text
+published uri (Some found) = diagnosed uri found
 published uri None = silence
 
 -- What a notification of the method does: it may lead to another phase; while the session runs it is followed, and else
@@ -140,7 +140,7 @@ pub record Republishes (session : Session) (value : Data) : Type 0 where
   pub uri : List ℕ
   pub found : OpenText
   pub is_open : session.texts uri ≡ Some found
-  pub diagnostics : IsSent (diagnosed uri found.text) (Some value)
+  pub diagnostics : IsSent (diagnosed uri found) (Some value)
 
 -- The session runs, and the value shows the user that a document is not formatted, or what is wrong with settings.
 pub record Shows (session : Session) (value : Data) : Type 0 where

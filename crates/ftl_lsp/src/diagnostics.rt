@@ -1,5 +1,6 @@
 //! The errors of a text, for a client to show.
-ghost use Rattle.std.specs.Prelude.{◌≡◌, ◌≤◌, [], ◌∷◌, length, map, All, IfOk};
+ghost use Rattle.std.specs.Prelude.{◌≡◌, ◌≤◌, ℕ, List, [], ◌∷◌, length, map, take, All, IfOk};
+ghost use Rattle.ftl_lsp.specs.declared.limits.TheConstants.{DIAGNOSTICS_LIMIT};
 ghost use Rattle.ftl_lsp.specs.Diagnostics.{deep_diagnostic, diagnostic_of, shown};
 
 pub mod diagnostic_forms;
@@ -11,7 +12,7 @@ pub mod republish;
 
 use crate::documents::positions::{Position, PositionRange, Positions};
 use crate::escapes::with_escapes;
-use crate::limits::NESTING_LIMIT;
+use crate::limits::{DIAGNOSTICS_LIMIT, NESTING_LIMIT};
 use fluent_syntax::parser::{Edition, ErrorKind, ParserError};
 use fluent_syntax::spans::Span;
 use ftl::{Cause, Lead, OpenBracket, advice, lead_of};
@@ -58,14 +59,26 @@ pub(crate) fn too_deep(alloc: Global) -> Result<Vec<Diagnostic>, AllocError>
     Ok(found)
 }
 
+/// The errors of which diagnostics are published: the first `DIAGNOSTICS_LIMIT`.
+pub(crate) fn first_errors(errors: &[ParserError]) -> &[ParserError]
+    ensures first { result.now ≡ take DIAGNOSTICS_LIMIT errors.now }
+    ensures places { (t : List ℕ) → All (λ e. e.pos.start ≤ length t) errors.now →
+        All (λ e. e.pos.start ≤ length t) result.now }
+{
+    if errors.len() <= DIAGNOSTICS_LIMIT {
+        return errors;
+    }
+    &errors[..DIAGNOSTICS_LIMIT]
+}
+
 /// A diagnostic for each of the errors, whose places begin within the text.
 pub(crate) fn diagnostics_of(
     alloc: Global,
     text: &str,
-    errors: &Vec<ParserError>,
+    errors: &[ParserError],
 ) -> Result<Vec<Diagnostic>, AllocError>
-    requires { All (λ e. e.pos.start ≤ length text.now) errors.now.items }
-    ensures { IfOk result (λ found. map shown found.items ≡ map (diagnostic_of text.now) errors.now.items) }
+    requires { All (λ e. e.pos.start ≤ length text.now) errors.now }
+    ensures { IfOk result (λ found. map shown found.items ≡ map (diagnostic_of text.now) errors.now) }
 {
     let mut positions = Positions::new(text);
     let mut found = Vec::new(alloc);

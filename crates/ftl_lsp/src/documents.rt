@@ -10,9 +10,9 @@ pub mod offsets;
 pub mod open_documents;
 pub mod positions;
 
-use crate::diagnostics::{Diagnostic, diagnostics_of, too_deep};
+use crate::diagnostics::{Diagnostic, diagnostics_of, first_errors, too_deep};
 use crate::documents::entry_ranges::entry_range_at;
-use crate::limits::NESTING_LIMIT;
+use crate::limits::{DIAGNOSTICS_LIMIT, NESTING_LIMIT};
 use fluent_syntax::ast::{Entry, Resource};
 use fluent_syntax::parser::{Edition, ParseFault, TooDeep};
 use fluent_syntax::spans::{Span, parse_spans_within};
@@ -25,10 +25,12 @@ pub struct Document {
     text: String,
     /// The entries of the text; none where it nests too deeply.
     body: Vec<Entry<Span>>,
-    /// One for each error of the text, in order; a lone one where it nests too deeply.
+    /// One for each of the first errors of the text, in order; a lone one where it nests too deeply.
     diagnostics: Vec<Diagnostic>,
+    /// How many errors it has besides.
+    more_errors: usize,
     is_too_deep: bool,
-    ghost diagnosed: { ∥ DiagnosesText (string_bytes text) (map shown diagnostics.items) ∥₁ },
+    ghost diagnosed: { ∥ DiagnosesText (string_bytes text) (map shown diagnostics.items) more_errors ∥₁ },
 }
 
 impl Document {
@@ -45,15 +47,19 @@ impl Document {
                 text,
                 body,
                 diagnostics: Vec::new(alloc),
+                more_errors: 0,
                 is_too_deep: false,
             }),
             Ok(Err(ParseFault::Syntax(tree, errors))) => {
                 let Resource { body } = tree;
-                let diagnostics = diagnostics_of(alloc, text.as_str(), &errors)?;
+                let first = first_errors(&errors);
+                let diagnostics = diagnostics_of(alloc, text.as_str(), first)?;
+                let more_errors = errors.len().saturating_sub(DIAGNOSTICS_LIMIT);
                 Ok(Document {
                     text,
                     body,
                     diagnostics,
+                    more_errors,
                     is_too_deep: false,
                 })
             }
@@ -64,6 +70,7 @@ impl Document {
                     text,
                     body: Vec::new(alloc),
                     diagnostics,
+                    more_errors: 0,
                     is_too_deep: true,
                 })
             }
@@ -88,11 +95,18 @@ impl Document {
         self.body.as_slice()
     }
 
-    /// A diagnostic for each of the text's errors, in order; a lone one where it nests too deeply.
+    /// A diagnostic for each of the text's first errors, in order; a lone one where it nests too deeply.
     pub fn diagnostics(&self) -> &[Diagnostic]
-        ensures { ∥ DiagnosesText (string_bytes self.now.text) (map shown result.now) ∥₁ }
+        ensures { ∥ DiagnosesText (string_bytes self.now.text) (map shown result.now) self.now.more_errors ∥₁ }
     {
         self.diagnostics.as_slice()
+    }
+
+    /// How many errors the text has besides.
+    pub fn more_errors(&self) -> usize
+        ensures { result ≡ self.now.more_errors }
+    {
+        self.more_errors
     }
 
     /// Whether the text nests deeper than `NESTING_LIMIT`.

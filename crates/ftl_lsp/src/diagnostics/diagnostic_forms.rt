@@ -1,12 +1,12 @@
 //! The diagnostics of a document, as the protocol has them.
 ghost use Rattle.std.specs.Prelude.{◌≡◌, map, All, IfOk};
 ghost use Rattle.serde_json.specs.View.{view};
-ghost use Rattle.ftl_lsp.specs.DiagnosticForms.{IsLintDiagnostic, code_of, diagnostic_form, diagnostic_with_related};
+ghost use Rattle.ftl_lsp.specs.DiagnosticForms.{IsLintDiagnostic, code_of, count_list, diagnostic_form, diagnostic_with_related};
 ghost use Rattle.ftl_lsp.specs.DiagnosticForms.{error_alone, error_form, note_form, related_form};
 ghost use Rattle.ftl_lsp.specs.DiagnosticForms.{reported_kind, severity_number, severity_of};
 
 use crate::diagnostics::{Diagnostic, RelatedNote};
-use crate::documents::positions::PositionRange;
+use crate::documents::positions::{Position, PositionRange};
 use crate::sessions::replies::range_form;
 use fluent_syntax_names::{Difference, Kind, Severity};
 use ftl_files::{Levels, ReportedKind};
@@ -19,8 +19,8 @@ pub struct LintDiagnostic<'u> {
     pub range: PositionRange,
     pub kind: LintDiagnosticKind,
     pub message: String,
-    /// Another place that it has to do with.
-    pub related: Option<Related<'u>>,
+    /// Other places that it has to do with.
+    pub related: Vec<Related<'u>>,
 }
 
 /// What it is.
@@ -146,8 +146,8 @@ fn note_form(alloc: Global, uri: &str, note: &RelatedNote) -> Result<Value, Allo
     )
 }
 
-/// What is reported besides the errors, in order: each as grave as the levels say, and with the other place, if the
-/// editor takes one. `AllocError` where a growth was refused.
+/// What is reported besides the errors, in order: each as grave as the levels say, and with the other places, if the
+/// editor takes such. `AllocError` where a growth was refused.
 pub fn lint_diagnostic_list(
     alloc: Global,
     all: &[LintDiagnostic<'_>],
@@ -173,13 +173,40 @@ fn lint_diagnostic_form(
 {
     let (range, message) = (diagnostic.range, diagnostic.message.as_str());
     let (severity, code) = (diagnostic.kind.severity(levels), diagnostic.kind.code());
-    match diagnostic.related {
-        Some(related) if takes_related => {
-            let positions = json!(in alloc; [(related_form(alloc, related)?)])?;
-            form_with_related(alloc, range, severity, code, message, positions)
-        }
-        _ => diagnostic_form(alloc, range, severity, code, message),
+    if !takes_related || diagnostic.related.is_empty() {
+        return diagnostic_form(alloc, range, severity, code, message);
     }
+    let positions = related_list(alloc, &diagnostic.related)?;
+    form_with_related(alloc, range, severity, code, message, positions)
+}
+
+/// Other places, in order.
+fn related_list(alloc: Global, related: &[Related<'_>]) -> Result<Value, AllocError> {
+    let mut list = Vec::new(alloc);
+    for place in related {
+        list.push(related_form(alloc, *place)?)?;
+    }
+    Ok(Value::Array(list))
+}
+
+/// The diagnostic at a text's begin that says how many more there are, if there are some. `AllocError` where a growth
+/// was refused.
+pub fn count_list(alloc: Global, more: usize) -> Result<Vec<Value>, AllocError>
+    ensures { IfOk result (λ list. map view list.items ≡ count_list more) }
+{
+    let mut list = Vec::new(alloc);
+    if more == 0 {
+        return Ok(list);
+    }
+    let start = Position {
+        line: 0,
+        character: 0,
+    };
+    let range = PositionRange { start, end: start };
+    let message = format!(in alloc; "{more} more are not shown")?;
+    let (severity, message) = (Severity::Warning, message.as_str());
+    list.push(diagnostic_form(alloc, range, severity, "more", message)?)?;
+    Ok(list)
 }
 
 /// A diagnostic with other places.

@@ -43,6 +43,7 @@ fn missing_of<'u>(
     let missing_parts = missing_parts(alloc, theirs, document)?;
     let own_ranges = ranges_in_other(alloc, document.text, &missing_parts)?;
     let mut their_positions = Positions::new(theirs.text);
+    let mut entries = Vec::new(alloc);
     let mut diagnostics = Vec::new(alloc);
     for missing in &missing_parts {
         let difference = reported_difference(ignored, Side::Reference, their, own, missing);
@@ -50,18 +51,57 @@ fn missing_of<'u>(
             let there = their_positions.range(missing.name);
             let place = place_text(alloc, shown, there.start)?;
             let place = Some(place.as_str());
-            diagnostics.push(LintDiagnostic {
+            let diagnostic = LintDiagnostic {
                 range: match name_in_other(document.text, missing) {
                     Some(name) => own_ranges.range(name),
                     None => BEGIN,
                 },
                 kind: LintDiagnosticKind::Difference(difference),
                 message: missing.sentence(alloc, theirs.text, Side::Reference, difference, place)?,
-                related: Some(related_in(original, there)),
-            })?;
+                related: related_in(alloc, original, Some(there))?,
+            };
+            if missing.in_other.is_some() {
+                diagnostics.push(diagnostic)?;
+            } else {
+                entries.push(diagnostic)?;
+            }
         }
     }
-    Ok(diagnostics)
+    let mut all = as_one(alloc, entries)?;
+    all.append(&mut diagnostics)?;
+    Ok(all)
+}
+
+/// The most places that are given of missing messages and terms.
+const SHOWN_MISSING: usize = 20;
+
+/// What is reported of messages and terms that are missing as a whole: where there are several, one diagnostic that
+/// counts them, and has the sentences and the places of the first.
+fn as_one<'u>(
+    alloc: Global,
+    entries: Vec<LintDiagnostic<'u>>,
+) -> Result<Vec<LintDiagnostic<'u>>, AllocError> {
+    let count = entries.len();
+    if count < 2 {
+        return Ok(entries);
+    }
+    let mut message = format!(in alloc; "{count} messages and terms are missing")?;
+    let mut related = Vec::new(alloc);
+    for entry in entries.iter().take(SHOWN_MISSING) {
+        message.push('\n')?;
+        message.push_str(entry.message.as_str())?;
+        if let Some(place) = entry.related.first() {
+            related.push(*place)?;
+        }
+    }
+    let mut all = Vec::new(alloc);
+    all.push(LintDiagnostic {
+        range: BEGIN,
+        kind: LintDiagnosticKind::Difference(Difference::Missing),
+        message,
+        related,
+    })?;
+    Ok(all)
 }
 
 /// What is reported of that which the original lacks, or has as junk.
@@ -94,7 +134,7 @@ fn extra_of<'u>(
                 range: positions.range(missing.name),
                 kind: LintDiagnosticKind::Difference(difference),
                 message: missing.sentence(alloc, document.text, Side::Other, difference, place)?,
-                related: junk.map(|range| related_in(original, range)),
+                related: related_in(alloc, original, junk)?,
             })?;
         }
     }
@@ -124,13 +164,21 @@ const BEGIN: PositionRange = PositionRange {
     end: START,
 };
 
-/// A place in the original, with what is reported of the document.
-fn related_in<'u>(original: &Original<'u>, range: PositionRange) -> Related<'u> {
-    Related {
-        uri: original.uri,
-        range,
-        message: "what the reference has",
+/// The place in the original, if there is one, with what is reported of the document.
+fn related_in<'u>(
+    alloc: Global,
+    original: &Original<'u>,
+    range: Option<PositionRange>,
+) -> Result<Vec<Related<'u>>, AllocError> {
+    let mut related = Vec::new(alloc);
+    if let Some(range) = range {
+        related.push(Related {
+            uri: original.uri,
+            range,
+            message: "what the reference has",
+        })?;
     }
+    Ok(related)
 }
 
 /// A place of the original, as it is reported: `path` is the original's as it is shown.

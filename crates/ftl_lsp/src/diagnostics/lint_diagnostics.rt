@@ -27,7 +27,7 @@ pub fn finding_diagnostics<'u>(
                 range: positions.range(span),
                 kind: LintDiagnosticKind::Finding(kind),
                 message: kind.sentence(alloc, full_name(text, span), line)?,
-                related: first_definition(uri, first),
+                related: first_definition(alloc, uri, first)?,
             })?;
         }
     }
@@ -46,10 +46,18 @@ fn first_spans(alloc: Global, findings: &[Finding]) -> Result<Vec<Span>, AllocEr
 }
 
 /// Where the name of a finding was given first, in the same document.
-fn first_definition<'u>(uri: &'u str, first: Option<PositionRange>) -> Option<Related<'u>> {
-    Some(Related {
-        uri,
-        range: first?,
-        message: "first given here",
-    })
+fn first_definition<'u>(
+    alloc: Global,
+    uri: &'u str,
+    first: Option<PositionRange>,
+) -> Result<Vec<Related<'u>>, AllocError> {
+    let mut related = Vec::new(alloc);
+    if let Some(range) = first {
+        related.push(Related {
+            uri,
+            range,
+            message: "first given here",
+        })?;
+    }
+    Ok(related)
 }

@@ -6,12 +6,14 @@ ghost use Rattle.ftl_lsp.specs.Replies.{IsSent};
 ghost use Rattle.ftl_lsp.specs.Sessions.{published, session_of};
 ghost use Rattle.ftl_lsp.specs.DiagnosticForms.{IsLintDiagnostic};
 
-use crate::diagnostics::diagnostic_forms::{LintDiagnostic, error_list, lint_diagnostic_list};
+use crate::diagnostics::diagnostic_forms::{
+    LintDiagnostic, count_list, error_list, lint_diagnostic_list,
+};
 use crate::diagnostics::differences::differences_of;
 use crate::diagnostics::lint_diagnostics::finding_diagnostics;
 use crate::documents::Document;
 use crate::documents::open_documents::{Documents, OpenDocument};
-use crate::limits::FINDINGS_LIMIT;
+use crate::limits::{DIAGNOSTICS_LIMIT, FINDINGS_LIMIT};
 use crate::sessions::replies::diagnostics_notification;
 use crate::sessions::server::Server;
 use crate::workspace::Workspace;
@@ -39,9 +41,13 @@ impl Server {
         };
         let errors = open.document.diagnostics();
         let mut list = error_list(self.alloc, uri, errors, self.related)?;
-        let mut others = self.lint_diagnostics(uri, open)?;
+        let room = DIAGNOSTICS_LIMIT.saturating_sub(errors.len());
+        let (mut others, more) = self.lint_diagnostics(uri, open, room)?;
+        let more = open.document.more_errors().saturating_add(more);
+        let mut count = count_list(self.alloc, more)?;
+        others.append(&mut count)?;
         list.append(&mut others)?;
-        Ok(Some(diagnostics_notification(self.alloc, uri, list)?))
+        Ok(Some(diagnostics_notification(self.alloc, uri, open.version, list)?))
     }
 
     /// Looks up what is defined next to a document, if its findings are sought there.
@@ -62,24 +68,30 @@ impl Server {
     }
 
     /// What is reported of a document besides its errors: what is found in it, and then how it differs from its
-    /// original. Nothing of one that is too long or nests too deeply.
-    fn lint_diagnostics(&self, uri: &str, open: &OpenDocument) -> Result<Vec<Value>, AllocError>
-        ensures { IfOk result (λ list. All IsLintDiagnostic (map view list.items)) }
+    /// original. The first of these, as many as there is room for, and how many there are more. Nothing of a document
+    /// that is too long or nests too deeply.
+    fn lint_diagnostics<'u>(
+        &'u self,
+        uri: &'u str,
+        open: &'u OpenDocument,
+        room: usize,
+    ) -> Result<(Vec<Value>, usize), AllocError>
+        ensures { IfOk result (λ found. All IsLintDiagnostic (map view found.0.items)) }
     {
         if !is_linted(&open.document) {
-            return Ok(Vec::new(self.alloc));
+            return Ok((Vec::new(self.alloc), 0));
         }
         let name_index = open.document.name_index(self.alloc)?;
         let comments = CommentRules::of(self.alloc, &name_index)?;
         let ignored = self.ignored_of(open)?;
-        let differences = self.differences(open, &comments, &ignored)?;
+        let mut differences = self.differences(open, &comments, &ignored)?;
         let findings = self.reported_findings(uri, open, &comments, &ignored)?;
-        let diagnostics = finding_diagnostics(self.alloc, uri, open.document.text(), &findings)?;
-        let (related, levels) = (self.related, self.levels_of(open));
-        let mut list = lint_diagnostic_list(self.alloc, &diagnostics, related, levels)?;
-        let mut difference_list = lint_diagnostic_list(self.alloc, &differences, related, levels)?;
-        list.append(&mut difference_list)?;
-        Ok(list)
+        let mut all = finding_diagnostics(self.alloc, uri, open.document.text(), &findings)?;
+        all.append(&mut differences)?;
+        let shown = all.len().min(room);
+        let first = all.get(..shown).unwrap_or(&[]);
+        let list = lint_diagnostic_list(self.alloc, first, self.related, self.levels_of(open))?;
+        Ok((list, all.len() - shown))
     }
 
     /// What a document and its original don't have alike, but for this; nothing of one that has none, or one that is

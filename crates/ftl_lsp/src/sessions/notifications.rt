@@ -126,6 +126,6 @@ impl Server {
         drop(self.defined.remove(uri));
         self.workspace.forget_defined_names(self.alloc);
         let none = Vec::new(self.alloc);
-        Ok(Some(diagnostics_notification(self.alloc, uri, none)?))
+        Ok(Some(diagnostics_notification(self.alloc, uri, None, none)?))
     }
 }

@@ -4,7 +4,7 @@ ghost use Rattle.serde_json.specs.Data.{null};
 ghost use Rattle.serde_json.specs.View.{view};
 ghost use Rattle.ftl_lsp.specs.Locations.{edit_form, position_form, range_form, span_form};
 ghost use Rattle.ftl_lsp.specs.Renaming.{document_edits_form, renaming_form, version_form};
-ghost use Rattle.ftl_lsp.specs.Replies.{answer_form, diagnostics_form, refusal_form, register_form};
+ghost use Rattle.ftl_lsp.specs.Replies.{answer_form, diagnostics_form, diagnostics_params, refusal_form, register_form};
 
 use crate::documents::occurrences::NameKind;
 use crate::documents::positions::{Position, Positions};
@@ -123,20 +123,37 @@ pub fn watch_params(alloc: Global) -> Result<Value, AllocError> {
     json!(in alloc; {"registrations": [registration]})
 }
 
-/// The notification of a document's diagnostics.
+/// The notification of the diagnostics of a document in one of its versions, if it has such.
 pub fn diagnostics_notification(
     alloc: Global,
     uri: &str,
+    version: Option<i64>,
     diagnostics: Vec<Value>,
 ) -> Result<Value, AllocError>
-    ensures { IfOk result (λ value. view value ≡ diagnostics_form uri.now (map view diagnostics.items)) }
+    ensures { IfOk result (λ value. view value ≡ diagnostics_form uri.now version (map view diagnostics.items)) }
 {
-    let diagnostics = Value::Array(diagnostics);
+    let params = diagnostics_params(alloc, uri, version, Value::Array(diagnostics))?;
     json!(in alloc; {
         "jsonrpc": "2.0",
         "method": "textDocument/publishDiagnostics",
-        "params": {"uri": uri, "diagnostics": diagnostics}
+        "params": params
     })
+}
+
+fn diagnostics_params(
+    alloc: Global,
+    uri: &str,
+    version: Option<i64>,
+    diagnostics: Value,
+) -> Result<Value, AllocError>
+    ensures { IfOk result (λ value. view value ≡ diagnostics_params uri.now version (view diagnostics)) }
+{
+    match version {
+        Some(version) => {
+            json!(in alloc; {"uri": uri, "version": version, "diagnostics": diagnostics})
+        }
+        None => json!(in alloc; {"uri": uri, "diagnostics": diagnostics}),
+    }
 }
 
 /// The tokens of a text, by their numbers.
