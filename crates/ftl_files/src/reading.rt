@@ -20,13 +20,15 @@ pub struct SourceFile {
 #[derive(Debug, Drop)]
 pub struct SourceFiles {
     pub files: Vec<SourceFile>,
-    /// Whether none was left out.
+    /// The paths of those that were listed and not read.
+    pub left_out: Vec<String>,
+    /// Whether all were listed, and none was left out for their number.
     pub is_whole: bool,
 }
 
-/// The files below the folder whose names end in `.ftl`, each as it is now, in the order of their paths. Left out is
-/// what is excluded, can't be read or is no UTF-8, a file of more than `FILE_LIMIT` bytes, and what comes after
-/// `FILES_LIMIT` files or would pass `BYTES_LIMIT` bytes. `AllocError` where a growth was refused.
+/// The files below the folder whose names end in `.ftl`, each as it is now, in the order of their paths. Left out is one
+/// that can't be read or is no UTF-8, that has more than `FILE_LIMIT` bytes, or that would pass `BYTES_LIMIT` bytes. What
+/// is excluded is not listed, and after `FILES_LIMIT` files none is read. `AllocError` where a growth was refused.
 pub fn read_files<F: Folders>(
     alloc: Global,
     files: &F,
@@ -38,21 +40,27 @@ pub fn read_files<F: Folders>(
     ensures bytes { IfOk result (λ found. total found.files.items ≤ BYTES_LIMIT) }
 {
     let listing = files.files_below(alloc, folder, excluded)?;
-    let is_whole = listing.is_whole();
-    let listed = listing.files.len();
+    let mut is_whole = listing.is_whole();
     let mut found = Vec::new(alloc);
+    let mut left_out = Vec::new(alloc);
     let mut left = BYTES_LIMIT;
     for path in listing.files {
         if found.len() < FILES_LIMIT && is_below(folder, path.as_str()) {
-            if let Some(text) = read_text(alloc, files, path.as_str(), left.min(FILE_LIMIT))? {
-                left -= text.len();
-                found.push(SourceFile { path, text })?;
+            match read_text(alloc, files, path.as_str(), left.min(FILE_LIMIT))? {
+                Some(text) => {
+                    left -= text.len();
+                    found.push(SourceFile { path, text })?;
+                }
+                None => left_out.push(path)?,
             }
+        } else {
+            is_whole = false;
         }
     }
     Ok(SourceFiles {
-        is_whole: is_whole && found.len() == listed,
         files: found,
+        left_out,
+        is_whole,
     })
 }
 

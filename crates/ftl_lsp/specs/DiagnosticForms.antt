@@ -97,13 +97,19 @@ abbrev pub code_of : LintDiagnosticKind → List ℕ
 code_of (Finding kind) = finding.name_of kind
 code_of (Difference difference) = difference_name difference
 
--- The diagnostic of a finding, or of a difference from the original, as grave as some settings say.
+abbrev pub left_out_sentence : List ℕ
+left_out_sentence =
+    codes "the file is not UTF-8, too long or can't be read, so undefined names of its language are not reported"
+
+-- The diagnostic of a finding, or of a difference from the original, as grave as some settings say; or, at the text's
+-- begin, that its file is left out where names are looked for.
 pub data IsLintDiagnostic : Data → Type 0 where
   alone : (range : PositionRange) (levels : Levels) (kind : LintDiagnosticKind) (message : List ℕ) →
       IsLintDiagnostic (diagnostic_form range (severity_of levels kind) (code_of kind) message)
   with_related : (range : PositionRange) (levels : Levels) (kind : LintDiagnosticKind) (message : List ℕ)
       (positions : Data) →
       IsLintDiagnostic (diagnostic_with_related range (severity_of levels kind) (code_of kind) message positions)
+  left_out : IsLintDiagnostic (diagnostic_form begin Warning (codes "left-out") left_out_sentence)
 
 -- how many diagnostics are not published, in a sentence
 abbrev pub more_sentence : ℕ → List ℕ

@@ -27,7 +27,9 @@ pub struct Workspace {
     folders: Vec<WorkspaceFolder>,
     /// The files, by their paths.
     files: BTreeMap<String, ClosedFile>,
-    /// Whether these are all files below the folders.
+    /// The paths of files that were left out: they were not read, or nest too deeply.
+    left_out: Vec<String>,
+    /// Whether these, and those that were left out, are all files below the folders.
     is_whole: bool,
     /// The names that those of them define that are not open, by the keys of their sets, as far as they were looked up
     /// since that changed.
@@ -42,6 +44,7 @@ impl Workspace {
         Workspace {
             folders: Vec::new(alloc),
             files: BTreeMap::new(alloc),
+            left_out: Vec::new(alloc),
             is_whole: false,
             defined: BTreeMap::new(alloc),
             can_watch: false,
@@ -60,6 +63,7 @@ impl Workspace {
         Ok(Workspace {
             folders,
             files: BTreeMap::new(alloc),
+            left_out: Vec::new(alloc),
             is_whole: false,
             defined: BTreeMap::new(alloc),
             can_watch: can_watch(message),
@@ -79,7 +83,7 @@ impl Workspace {
     }
 
     /// Reads the files anew. What is said of one whose text is the same is kept. The notices say which settings are
-    /// wrong by now.
+    /// wrong by now, and which files are left out.
     ///
     /// `AllocError` where a growth was refused.
     pub fn read<F: Folders>(
@@ -89,6 +93,7 @@ impl Workspace {
     ) -> Result<Vec<Notice>, AllocError> {
         let mut found = BTreeMap::new(alloc);
         let mut notices = Vec::new(alloc);
+        let mut left_out = Vec::new(alloc);
         let mut all = true;
         for folder in self.folders.iter_mut() {
             if let Some(notice) = folder.reload_project_settings(alloc, files)? {
@@ -96,28 +101,58 @@ impl Workspace {
             }
             let SourceFiles {
                 files: sources,
+                left_out: mut unread,
                 is_whole,
             } = read_files(alloc, files, folder.path.as_str(), &folder.excluded)?;
             all = all && is_whole;
+            left_out.append(&mut unread)?;
             for file in sources {
                 let SourceFile { path, text } = file;
                 let before = self.files.remove(path.as_str());
                 match ClosedFile::read(alloc, before, path.as_str(), text)? {
                     Some(closed) => drop(found.insert(path, closed)?),
-                    None => all = false,
+                    None => left_out.push(path)?,
                 }
             }
         }
+        self.add_left_out(alloc, &left_out, &mut notices)?;
+        self.left_out = left_out;
         self.files = found;
         self.is_whole = all;
         self.defined = BTreeMap::new(alloc);
         Ok(notices)
     }
 
+    /// Adds a notice of each file that is left out and was not before.
+    fn add_left_out(
+        &self,
+        alloc: Global,
+        left_out: &[String],
+        notices: &mut Vec<Notice>,
+    ) -> Result<(), AllocError> {
+        for path in left_out {
+            let path = path.as_str();
+            if !self.leaves_out(path) {
+                let shown = String::from_str(alloc, self.display_path(path))?;
+                add_notice(notices, Notice::LeftOut(shown))?;
+            }
+        }
+        Ok(())
+    }
+
+    /// Whether the file at the path was left out.
+    pub fn leaves_out(&self, path: &str) -> bool {
+        self.left_out.iter().any(|left| left.as_str() == path)
+    }
+
     /// Whether all files are known that may define what a file at the path refers to: it is below one of the
-    /// folders, and no file of them was left out.
+    /// folders, and no file of its set was left out.
     pub fn is_complete_for(&self, path: &str) -> bool {
-        self.is_whole && self.covers(path)
+        let set = self.set_of(path);
+        let left_out = self.left_out.iter();
+        self.is_whole
+            && self.covers(path)
+            && !left_out.any(|left| self.set_by_language(left.as_str()) == set)
     }
 
     /// Whether files are looked for where the path is, below one of the folders.

@@ -1,7 +1,9 @@
 //! The diagnostics of a document, as the protocol has them.
 ghost use Rattle.std.specs.Prelude.{◌≡◌, map, All, IfOk};
 ghost use Rattle.serde_json.specs.View.{view};
-ghost use Rattle.ftl_lsp.specs.DiagnosticForms.{IsLintDiagnostic, code_of, count_list, diagnostic_form, diagnostic_with_related};
+ghost use Rattle.fluent_syntax_names.specs.declared.finding.Severity.TheVariants as severities;
+ghost use Rattle.ftl_lsp.specs.DiagnosticForms.{IsLintDiagnostic, begin, code_of, count_list, diagnostic_form};
+ghost use Rattle.ftl_lsp.specs.DiagnosticForms.{diagnostic_with_related};
 ghost use Rattle.ftl_lsp.specs.DiagnosticForms.{error_alone, error_form, note_form, related_form};
 ghost use Rattle.ftl_lsp.specs.DiagnosticForms.{reported_kind, severity_number, severity_of};
 
@@ -198,15 +200,31 @@ pub fn count_list(alloc: Global, more: usize) -> Result<Vec<Value>, AllocError>
     if more == 0 {
         return Ok(list);
     }
+    let message = format!(in alloc; "{more} more are not shown")?;
+    list.push(warning_at_begin(alloc, "more", message.as_str())?)?;
+    Ok(list)
+}
+
+/// The diagnostic of a document whose file is left out. `AllocError` where a growth was refused.
+pub fn left_out_form(alloc: Global) -> Result<Value, AllocError>
+    ensures { IfOk result (λ value. IsLintDiagnostic (view value)) }
+{
+    warning_at_begin(
+        alloc,
+        "left-out",
+        "the file is not UTF-8, too long or can't be read, so undefined names of its language are not reported",
+    )
+}
+
+fn warning_at_begin(alloc: Global, code: &str, message: &str) -> Result<Value, AllocError>
+    ensures { IfOk result (λ value. view value ≡ diagnostic_form begin severities.Warning code.now message.now) }
+{
     let start = Position {
         line: 0,
         character: 0,
     };
     let range = PositionRange { start, end: start };
-    let message = format!(in alloc; "{more} more are not shown")?;
-    let (severity, message) = (Severity::Warning, message.as_str());
-    list.push(diagnostic_form(alloc, range, severity, "more", message)?)?;
-    Ok(list)
+    diagnostic_form(alloc, range, Severity::Warning, code, message)
 }
 
 /// A diagnostic with other places.

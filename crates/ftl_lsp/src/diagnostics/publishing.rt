@@ -7,7 +7,7 @@ ghost use Rattle.ftl_lsp.specs.Sessions.{published, session_of};
 ghost use Rattle.ftl_lsp.specs.DiagnosticForms.{IsLintDiagnostic};
 
 use crate::diagnostics::diagnostic_forms::{
-    LintDiagnostic, count_list, error_list, lint_diagnostic_list,
+    LintDiagnostic, count_list, error_list, left_out_form, lint_diagnostic_list,
 };
 use crate::diagnostics::differences::differences_of;
 use crate::diagnostics::lint_diagnostics::finding_diagnostics;
@@ -90,7 +90,10 @@ impl Server {
         all.append(&mut differences)?;
         let shown = all.len().min(room);
         let first = all.get(..shown).unwrap_or(&[]);
-        let list = lint_diagnostic_list(self.alloc, first, self.related, self.levels_of(open))?;
+        let mut list = lint_diagnostic_list(self.alloc, first, self.related, self.levels_of(open))?;
+        if self.is_left_out(open) {
+            list.push(left_out_form(self.alloc)?)?;
+        }
         Ok((list, all.len() - shown))
     }
 
@@ -119,6 +122,12 @@ impl Server {
         }
         let shown = self.workspace.display_path(there.as_str());
         differences_of(self.alloc, comments, &original, shown, ignored)
+    }
+
+    /// Whether the document's file is left out where names are looked for.
+    fn is_left_out(&self, open: &OpenDocument) -> bool {
+        let path = open.path.as_deref();
+        path.is_some_and(|path| self.workspace.leaves_out(path))
     }
 
     /// How grave what is reported of a document is.

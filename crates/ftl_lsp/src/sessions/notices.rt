@@ -10,7 +10,8 @@ use fluent_syntax_names::Severity;
 use serde_json::{Value, json};
 use std::alloc::{AllocError, Global};
 
-/// What is shown to the user: that a document with this name is not formatted, or what is wrong with settings.
+/// What is shown to the user: that a document with this name is not formatted, that a file is left out, or what is
+/// wrong with settings.
 #[derive(Clone, PartialEq, Drop)]
 pub enum Notice {
     /// The document nests too deep.
@@ -19,6 +20,8 @@ pub enum Notice {
     HasError(String, usize),
     /// What would be written does not read back.
     NotReadBack(String),
+    /// The file of this name is left out where names are looked for.
+    LeftOut(String),
     /// The `ftl.toml` of the folder can't be gone by, and why.
     WrongSettings(String, String),
 }
@@ -70,6 +73,9 @@ impl Notice {
             }
             Notice::NotReadBack(name) => format!(in alloc;
                 "{name} is not formatted: what would be written does not read back"
+            ),
+            Notice::LeftOut(name) => format!(in alloc;
+                "{name} is not UTF-8, too long or can't be read, so undefined names of its language are not reported"
             ),
             Notice::WrongSettings(folder, fault) => format!(in alloc; "{folder}/ftl.toml: {fault}"),
         }

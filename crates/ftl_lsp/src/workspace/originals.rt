@@ -34,6 +34,12 @@ impl Reference {
         }
     }
 
+    /// Its path. `AllocError` where a growth was refused.
+    pub fn path(&self, alloc: Global) -> Result<String, AllocError> {
+        let Reference { above, own } = self;
+        format!(in alloc; "{above}/{own}")
+    }
+
     /// The path of the original of the file at the path. None where that is to be no translation. `AllocError` where a
     /// growth was refused.
     pub fn original_of(&self, alloc: Global, path: &str) -> Result<Option<String>, AllocError> {

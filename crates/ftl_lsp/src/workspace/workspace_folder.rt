@@ -9,6 +9,9 @@ use ftl_files::{
 };
 use std::alloc::{AllocError, Global};
 
+/// Why settings can't be gone by that name a reference.
+const NO_REFERENCE: &str = "`reference` names what is not there";
+
 /// A folder that an editor works in.
 #[derive(Drop)]
 pub struct WorkspaceFolder {
@@ -101,6 +104,12 @@ impl WorkspaceFolder {
             Err(fault) => (None, Some(fault)),
         };
         self.take_settings(alloc, settings)?;
+        let fault = match (fault, &self.reference) {
+            (None, Some(reference)) if !files.has(reference.path(alloc)?.as_str()) => {
+                Some(Notice::of_settings(alloc, self.path.as_str(), NO_REFERENCE)?)
+            }
+            (fault, _) => fault,
+        };
         let new_fault = match &fault {
             Some(notice) if self.fault != fault => Some(notice.clone()?),
             _ => None,

@@ -43,9 +43,17 @@ fn files_of_a_folder(rt: HostRuntime) -> Result<(), Fail> {
     assert_holds(alloc, "all listed", listed.is_whole())?;
     let found = read_files(alloc, &files, "/w", &all)?;
     assert_holds(alloc, "found", are_files(&found.files, &FOUND))?;
-    assert_holds(alloc, "two left out", !found.is_whole)?;
+    assert_holds(
+        alloc,
+        "two left out",
+        found.left_out.len() == 2 && found.is_whole,
+    )?;
     let whole = read_files(alloc, &files, "/w/de", &all)?;
-    assert_holds(alloc, "none left out", whole.is_whole)?;
+    assert_holds(
+        alloc,
+        "none left out",
+        whole.left_out.is_empty() && whole.is_whole,
+    )?;
     let none = read_files(alloc, &files, "/v", &all)?;
     assert_holds(alloc, "none there", none.files.is_empty() && none.is_whole)
 }
