@@ -69,7 +69,7 @@ fn users_text(
     };
     let own = name.name;
     let mut text = format!(in alloc; "{mark}{sign}{own}{mark} is {sort}. It is used by")?;
-    let mut count = 0;
+    let mut count: usize = 0;
     for document in &context.documents {
         let mut user = None;
         for occurrence in document.occurrences() {
@@ -78,7 +78,7 @@ fn users_text(
                 user = Some(found);
             } else if let (true, Some(entry)) = (found == name, user) {
                 push_user(&mut text, entry, count, mark)?;
-                count = count + 1;
+                count = count.saturating_add(1);
                 user = None;
             }
         }
@@ -130,13 +130,17 @@ fn markdown_of(alloc: Global, quotes: &[Quote<'_>]) -> Result<String, AllocError
 
 /// Adds a text between more backticks than it has in a row, at least so many; from 3 on on lines of its own.
 fn push_fenced(text: &mut String, inner: &str, least: usize) -> Result<(), AllocError> {
-    let mut longest = 0;
-    let mut row = 0;
+    let mut longest: usize = 0;
+    let mut row: usize = 0;
     for byte in inner.bytes() {
-        row = if byte == b'`' { row + 1 } else { 0 };
+        row = if byte == b'`' {
+            row.saturating_add(1)
+        } else {
+            0
+        };
         longest = row.max(longest);
     }
-    let fence = least.max(longest + 1);
+    let fence = least.max(longest.saturating_add(1));
     push_backticks(text, fence)?;
     if least > 1 {
         text.push_str("fluent\n")?;
