@@ -3,6 +3,7 @@
 use crate::documents::entry_ranges::{entry_line_start, start_of_line};
 use crate::documents::occurrences::{Name, NameKind, is_name_byte};
 use crate::requests::nesting::{LevelKind, levels_at};
+use fluent_syntax_grammar::lanes::name_len;
 use std::alloc::{AllocError, Global};
 
 /// Which names may be at a place.
@@ -34,16 +35,10 @@ pub fn begin_of_name(text: &[u8], end: usize) -> usize {
 
 /// The name of the message or term that the place is in, as far as its text shows that.
 pub fn entry_name_at(text: &str, byte: usize) -> Name<'_> {
-    let bytes = text.as_bytes();
-    let start = entry_line_start(bytes, byte);
-    let mut end = start;
-    for at in start..bytes.len() {
-        if !is_name_byte(bytes[at]) {
-            break;
-        }
-        end = at + 1;
-    }
-    definition_name(text.get(start..end).unwrap_or(""))
+    let entry = text
+        .get(entry_line_start(text.as_bytes(), byte)..)
+        .unwrap_or("");
+    definition_name(entry.get(..name_len(entry.as_bytes())).unwrap_or(""))
 }
 
 /// The name of the message or term that is written so.

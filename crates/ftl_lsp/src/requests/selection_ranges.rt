@@ -3,7 +3,7 @@
 use crate::documents::Document;
 use crate::documents::changes::position_of;
 use crate::documents::entry_ranges::{entry_number_at, entry_range_of, own_start_of};
-use crate::documents::occurrences::is_name_byte;
+use crate::documents::occurrences::bytes_of;
 use crate::documents::offsets::byte_of;
 use crate::documents::positions::Positions;
 use crate::requests::nesting::placeables_in;
@@ -64,7 +64,7 @@ fn ranges_around(alloc: Global, document: &Document, byte: usize) -> Result<Vec<
             }
         }
     }
-    add_around(&mut around, word_at(text.as_bytes(), byte), byte)?;
+    add_around(&mut around, word_at(text, byte), byte)?;
     Ok(around)
 }
 
@@ -82,43 +82,32 @@ fn add_around(around: &mut Vec<Span>, span: Span, byte: usize) -> Result<(), All
 
 /// What follows the first `=` of a value or an attribute, and the blanks after that.
 fn pattern_in(text: &str, part: Span) -> Span {
-    let bytes = text.as_bytes();
-    let mut is_pattern = false;
-    for at in part.start..part.end.min(bytes.len()) {
-        match bytes[at] {
-            b'=' if !is_pattern => is_pattern = true,
-            b' ' | b'\n' | b'\r' => {}
-            _ if is_pattern => {
-                return Span {
-                    start: at,
-                    end: part.end,
-                };
-            }
-            _ => {}
-        }
+    match bytes_of(text, part).split_once('=') {
+        Some((_, rest)) => Span {
+            start: part
+                .end
+                .saturating_sub(rest.trim_start_matches(is_blank).len()),
+            end: part.end,
+        },
+        None => part,
     }
-    part
+}
+
+fn is_blank(c: char) -> bool {
+    matches!(c, ' ' | '\n' | '\r')
 }
 
 /// The name or the word in which the byte is, with the `$` of a variable.
-fn word_at(text: &[u8], byte: usize) -> Span {
-    let is_word = |byte: u8| is_name_byte(byte) || byte >= 0x80;
-    let mut start = byte;
-    for at in (0..byte.min(text.len())).rev() {
-        if !is_word(text[at]) {
-            if text[at] == b'$' {
-                start = at;
-            }
-            break;
-        }
-        start = at;
+fn word_at(text: &str, byte: usize) -> Span {
+    let before = text.get(..byte).unwrap_or("").trim_end_matches(is_word);
+    let after = text.get(byte..).unwrap_or("");
+    let rest = after.trim_start_matches(is_word);
+    Span {
+        start: before.strip_suffix('$').unwrap_or(before).len(),
+        end: text.len().saturating_sub(rest.len()),
     }
-    let mut end = byte;
-    for at in byte..text.len() {
-        if !is_word(text[at]) {
-            break;
-        }
-        end = at + 1;
-    }
-    Span { start, end }
+}
+
+fn is_word(c: char) -> bool {
+    c.is_alphanumeric() || matches!(c, '-' | '_')
 }
