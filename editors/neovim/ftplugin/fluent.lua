@@ -32,6 +32,7 @@ local buffer = vim.api.nvim_get_current_buf()
 vim.bo.omnifunc = "v:lua.vim.lsp.omnifunc"
 -- of a completed text of several lines neovim makes one, with NULs as its line ends
 vim.api.nvim_create_autocmd("CompleteDone", {
+  group = vim.api.nvim_create_augroup("fluent" .. buffer, { clear = true }),
   buffer = buffer,
   callback = function()
     local row, line = vim.fn.line("."), vim.api.nvim_get_current_line()
