@@ -4,6 +4,7 @@ use crate::documents::Document;
 use crate::documents::entry_ranges::{entry_range_of, own_start_of};
 use crate::documents::positions::Positions;
 use crate::requests::nesting::placeables_in;
+use crate::requests::symbols::group_title;
 use fluent_syntax::ast::{Comment, Entry};
 use fluent_syntax::spans::Span;
 use std::alloc::{AllocError, Global};
@@ -40,7 +41,7 @@ fn add_fold(
 }
 
 /// The comments and entries of several lines, and the placeables in these; and from each comment of a group on what
-/// comes before the next one. No entry and no group begins with the line of another fold.
+/// comes before the next one; an empty one only ends a group. No entry and no group begins with the line of another fold.
 pub fn folding_ranges_in(
     alloc: Global,
     document: &Document,
@@ -57,8 +58,11 @@ pub fn folding_ranges_in(
         if let Some(comment) = comment_of(entry) {
             last = add_comment(&mut found, &mut positions, comment)?;
         }
-        if let Entry::GroupComment(_) = entry {
-            group = Some(last);
+        if let Entry::GroupComment(comment) = entry {
+            group = match group_title(comment) {
+                Some(_) => Some(last),
+                None => None,
+            };
         }
         if let (Some(start), Some(whole)) = (
             own_start_of(entry),

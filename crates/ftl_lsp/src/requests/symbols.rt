@@ -72,21 +72,30 @@ pub fn symbols_in(
     Ok(found)
 }
 
-/// Adds the group that the comment begins, and gives its number. None where the comment is empty, which ends a group.
+/// The first line of a group's comment that isn't empty. None where all are: such a comment ends a group.
+pub fn group_title(comment: &Comment<Span>) -> Option<Span> {
+    comment
+        .content
+        .iter()
+        .find(|line| line.start < line.end)
+        .copied()
+}
+
+/// Adds the group that the comment begins, and gives its number. None where it begins none.
 fn add_group(
     alloc: Global,
     found: &mut Vec<Symbol>,
     comment: &Comment<Span>,
     whole: Span,
 ) -> Result<Option<usize>, AllocError> {
-    let Some(name) = comment.content.iter().find(|line| line.start < line.end) else {
+    let Some(name) = group_title(comment) else {
         return Ok(None);
     };
     let number = found.len();
     found.push(Symbol {
         kind: SymbolKind::Group,
         whole,
-        name: *name,
+        name,
         attributes: Vec::new(alloc),
         members: 0,
     })?;
