@@ -50,6 +50,9 @@ left to Emacs."
   "A mode for the files of Project Fluent."
   (setq-local comment-start "# ")
   (setq-local comment-end "")
+  ;; the symbol at point is a whole name, with the sign that the server offers it with
+  (modify-syntax-entry ?- "_")
+  (modify-syntax-entry ?$ "_")
   (setq-local indent-tabs-mode nil)
   (setq-local tab-width 4)
   (add-hook 'project-find-functions #'fluent--project nil t)
@@ -61,7 +64,12 @@ left to Emacs."
 (defvar eglot-server-programs)
 
 (defun fluent--server (&rest _)
-  "What eglot runs."
+  "What eglot runs.  Warns where there is no such program."
+  (unless (executable-find fluent-program)
+    (display-warning
+     'fluent
+     (format "No program %s: install ftl-lsp, or set fluent-program"
+             fluent-program)))
   (list fluent-program))
 
 (with-eval-after-load 'eglot

@@ -1,7 +1,7 @@
 // Starts the language server `ftl-lsp` for Fluent files, over the projects of those that are open.
 const { existsSync } = require("fs");
 const { basename, dirname, join } = require("path");
-const { Uri, workspace } = require("vscode");
+const { Uri, window, workspace } = require("vscode");
 const { LanguageClient } = require("vscode-languageclient/node");
 
 const projects = new Set();
@@ -38,9 +38,12 @@ exports.activate = ({ subscriptions }) => {
   const command = workspace.getConfiguration("fluent").get("program", "ftl-lsp");
   workspace.textDocuments.forEach(noteProject);
   client = new Client("ftl", "Fluent", { command }, { documentSelector: [{ language: "fluent" }] });
-  started = client.start();
+  const reported = (starting) => starting.catch(({ message }) => {
+    window.showErrorMessage(`Fluent: ${command} doesn't start: ${message}. Is it installed, or named in fluent.program?`);
+  });
+  started = reported(client.start());
   subscriptions.push(workspace.onDidOpenTextDocument((document) => {
-    if (noteProject(document)) started = started.then(() => client.restart());
+    if (noteProject(document)) started = started.then(() => reported(client.restart()));
   }));
   return started;
 };

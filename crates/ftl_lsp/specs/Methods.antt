@@ -7,7 +7,7 @@ use Rattle.ftl_lsp.specs.declared.sessions.methods.Method.TheVariants.{DidClose,
 use Rattle.ftl_lsp.specs.declared.sessions.methods.Method.TheVariants.{Definition, References, DocumentHighlight}
 use Rattle.ftl_lsp.specs.declared.sessions.methods.Method.TheVariants.{Hover, Rename, Completion, WorkspaceSymbol}
 use Rattle.ftl_lsp.specs.declared.sessions.methods.Method.TheVariants.{SemanticTokens, Initialized}
-use Rattle.ftl_lsp.specs.declared.sessions.methods.Method.TheVariants.{DidChangeWatchedFiles}
+use Rattle.ftl_lsp.specs.declared.sessions.methods.Method.TheVariants.{DidChangeWatchedFiles, PrepareRename, SelectionRange}
 
 abbrev pub name_of : Method → List ℕ
 name_of Initialize = codes "initialize"
@@ -30,3 +30,5 @@ name_of DidSave = codes "textDocument/didSave"
 name_of Exit = codes "exit"
 name_of Initialized = codes "initialized"
 name_of DidChangeWatchedFiles = codes "workspace/didChangeWatchedFiles"
+name_of PrepareRename = codes "textDocument/prepareRename"
+name_of SelectionRange = codes "textDocument/selectionRange"

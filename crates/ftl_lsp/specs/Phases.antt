@@ -10,7 +10,7 @@ use Rattle.ftl_lsp.specs.declared.sessions.methods.Method.TheVariants.{Definitio
 use Rattle.ftl_lsp.specs.declared.sessions.methods.Method.TheVariants.{Hover, Completion, WorkspaceSymbol}
 use Rattle.ftl_lsp.specs.declared.sessions.methods.Method.TheVariants as methods
 use Rattle.ftl_lsp.specs.declared.sessions.methods.Method.TheVariants.{SemanticTokens, Initialized}
-use Rattle.ftl_lsp.specs.declared.sessions.methods.Method.TheVariants.{DidChangeWatchedFiles}
+use Rattle.ftl_lsp.specs.declared.sessions.methods.Method.TheVariants.{DidChangeWatchedFiles, PrepareRename, SelectionRange}
 use Rattle.ftl_lsp.specs.declared.sessions.phases.Phase.{Phase}
 use Rattle.ftl_lsp.specs.declared.sessions.phases.Phase.TheVariants.{Fresh, Running, ShutDown, Exited, Left}
 use Rattle.ftl_lsp.specs.declared.sessions.phases.ErrorCode.{ErrorCode}
@@ -63,6 +63,8 @@ refusal_after (Some methods.Rename) = None
 refusal_after (Some Completion) = None
 refusal_after (Some WorkspaceSymbol) = None
 refusal_after (Some SemanticTokens) = None
+refusal_after (Some PrepareRename) = None
+refusal_after (Some SelectionRange) = None
 refusal_after (Some DidOpen) = Some MethodNotFound
 refusal_after (Some DidChange) = Some MethodNotFound
 refusal_after (Some DidClose) = Some MethodNotFound

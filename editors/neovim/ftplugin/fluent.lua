@@ -3,9 +3,13 @@
 vim.bo.commentstring = "# %s"
 vim.bo.expandtab = true
 vim.bo.shiftwidth = 4
+-- names have a `-` in them, and those of terms begin with one
+vim.opt_local.iskeyword:append("-")
 
 local program = vim.g.fluent_program or "ftl-lsp"
 if vim.fn.executable(program) == 0 then
+  local missing = "fluent: no program %s: install ftl-lsp, or name it in g:fluent_program"
+  vim.notify_once(missing:format(program), vim.log.levels.WARN)
   return
 end
 
@@ -25,6 +29,20 @@ local function project_of(file)
 end
 
 local buffer = vim.api.nvim_get_current_buf()
+vim.bo.omnifunc = "v:lua.vim.lsp.omnifunc"
+-- of a completed text of several lines neovim makes one, with NULs as its line ends
+vim.api.nvim_create_autocmd("CompleteDone", {
+  group = vim.api.nvim_create_augroup("fluent" .. buffer, { clear = true }),
+  buffer = buffer,
+  callback = function()
+    local row, line = vim.fn.line("."), vim.api.nvim_get_current_line()
+    if line:find("\0", 1, true) then
+      local lines = vim.split(line, "\0", { plain = true })
+      vim.api.nvim_buf_set_lines(buffer, row - 1, row, false, lines)
+      vim.api.nvim_win_set_cursor(0, { row + #lines - 1, #lines[#lines] })
+    end
+  end,
+})
 local root = project_of(vim.api.nvim_buf_get_name(buffer))
 local server = {
   name = "ftl",

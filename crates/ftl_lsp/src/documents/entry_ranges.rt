@@ -31,7 +31,7 @@ fn start_of_comment(text: &str, comment: &Comment<Span>) -> usize {
 }
 
 /// Where the line begins in which the byte is.
-fn start_of_line(text: &[u8], byte: usize) -> usize {
+pub fn start_of_line(text: &[u8], byte: usize) -> usize {
     for at in (0..byte.min(text.len())).rev() {
         if text[at] == b'\n' {
             return at + 1;
@@ -41,7 +41,7 @@ fn start_of_line(text: &[u8], byte: usize) -> usize {
 }
 
 /// Where what ends at the byte ends without spaces and line ends.
-fn trimmed_end(text: &[u8], end: usize) -> usize {
+pub fn trimmed_end(text: &[u8], end: usize) -> usize {
     for at in (0..end.min(text.len())).rev() {
         if !matches!(text[at], b' ' | b'\n' | b'\r') {
             return at + 1;
@@ -64,8 +64,37 @@ pub fn entry_range_of(text: &str, body: &[Entry<Span>], number: usize) -> Option
     })
 }
 
-/// Where the entry is that is the last to begin before the byte or there. None where none does.
-pub fn entry_range_at(text: &str, body: &[Entry<Span>], byte: usize) -> Option<Span> {
+/// Where the message or term begins without its comment. None of others.
+pub fn own_start_of(entry: &Entry<Span>) -> Option<usize> {
+    match entry {
+        Entry::Message(message) => Some(message.id.name.start),
+        Entry::Term(term) => Some(term.id.name.start.saturating_sub(1)),
+        _ => None,
+    }
+}
+
+/// The number of the entry that is the last to begin before the byte or there. None where none does.
+pub fn entry_number_at(text: &str, body: &[Entry<Span>], byte: usize) -> Option<usize> {
     let beyond = body.partition_point(|entry| start_of(text, entry) <= byte);
-    entry_range_of(text, body, beyond.checked_sub(1)?)
+    beyond.checked_sub(1)
+}
+
+/// Where that entry is. None where there is none.
+pub fn entry_range_at(text: &str, body: &[Entry<Span>], byte: usize) -> Option<Span> {
+    entry_range_of(text, body, entry_number_at(text, body, byte)?)
+}
+
+/// Where the line begins that may begin the entry in which the byte is, as its first byte shows: it is a letter, a `-`
+/// or a `#`. So it is also found while the entry is typed.
+pub fn entry_line_start(text: &[u8], byte: usize) -> usize {
+    for before in (0..byte.min(text.len())).rev() {
+        if text[before] == b'\n' {
+            if let Some(first) = text.get(before + 1) {
+                if first.is_ascii_alphabetic() || matches!(*first, b'-' | b'#') {
+                    return before + 1;
+                }
+            }
+        }
+    }
+    0
 }

@@ -180,6 +180,21 @@ impl IndexedDocument<'_> {
         found
     }
 
+    /// The same name with its place, and whether it is defined there.
+    pub fn occurrence_at(&self, byte: usize) -> Option<Occurrence> {
+        let occurrences = self.occurrences();
+        occurrences
+            .iter()
+            .rev()
+            .find(|occurrence| occurrence.is_at(byte))
+            .copied()
+    }
+
+    /// The text read anew. `AllocError` where a growth was refused.
+    pub fn read(&self, alloc: Global) -> Result<Document, AllocError> {
+        Document::new(alloc, String::from_str(alloc, self.text)?)
+    }
+
     /// Where the name is, in order. `AllocError` where a growth was refused.
     pub fn ranges_of(
         &self,
@@ -213,10 +228,7 @@ impl IndexedDocument<'_> {
         match &self.names {
             _ if spans.is_empty() => Ok(Vec::new(alloc)),
             Names::OpenDocument { document, .. } => entries_at(alloc, document, &spans),
-            Names::ClosedFile(_) => {
-                let document = Document::new(alloc, String::from_str(alloc, self.text)?)?;
-                entries_at(alloc, &document, &spans)
-            }
+            Names::ClosedFile(_) => entries_at(alloc, &self.read(alloc)?, &spans),
         }
     }
 }

@@ -1,113 +1,128 @@
 //! The names that may be at a place.
 
-use crate::documents::occurrences::{NameKind, Occurrence, is_name_byte, name_of};
+use crate::documents::index::IndexedDocument;
+use crate::documents::occurrences::{NameKind, Occurrence, name_of};
+use crate::requests::candidates::{CandidateKind, Candidates, label_of};
+use crate::requests::expected_names::{Expected, begin_of_name, entry_name_at, expected_at};
+use crate::requests::original_names::{add_attributes, add_entries, add_keys, add_variables};
 use crate::requests::request_context::RequestContext;
-use crate::sessions::replies::item_form;
+use fluent_syntax::spans::Span;
 use serde_json::Value;
 use std::alloc::{AllocError, Global};
-use std::collections::BTreeMap;
 
-/// Which names may be at a place.
-#[derive(Clone, Copy)]
-enum Expected<'t> {
-    Variables,
-    Terms,
-    MessagesAndTerms,
-    /// The attributes of a message or term, whose name is given with the `-` of a term.
-    AttributesOf(&'t str),
-    Nothing,
-}
+/// The functions of Fluent.
+const FUNCTIONS: [&str; 2] = ["NUMBER", "DATETIME"];
 
-/// Where the name begins that ends at the byte.
-fn begin_of_name(text: &[u8], end: usize) -> usize {
-    for at in (0..end.min(text.len())).rev() {
-        if !is_name_byte(text[at]) {
-            return at + 1;
-        }
-    }
-    0
-}
-
-/// Whether the last brace before the byte opens a placeable.
-fn is_in_placeable(text: &[u8], end: usize) -> bool {
-    for at in (0..end.min(text.len())).rev() {
-        match text[at] {
-            b'{' => return true,
-            b'}' => return false,
-            _ => {}
-        }
-    }
-    false
-}
-
-/// What may come after the byte's name.
-fn expected_at(text: &str, byte: usize) -> Expected<'_> {
-    let bytes = text.as_bytes();
-    let begin = begin_of_name(bytes, byte);
-    if !is_in_placeable(bytes, begin) {
-        return Expected::Nothing;
-    }
-    let word = text.get(begin..byte).unwrap_or("");
-    let Some(before) = begin.checked_sub(1) else {
-        return Expected::Nothing;
-    };
-    match bytes.get(before) {
-        Some(b'$') => Expected::Variables,
-        Some(b'.') => {
-            let owner = begin_of_name(bytes, before);
-            Expected::AttributesOf(text.get(owner..before).unwrap_or(""))
-        }
-        _ if word.starts_with('-') => Expected::Terms,
-        _ => Expected::MessagesAndTerms,
-    }
-}
-
-/// The name as it is written where it is referred to, if it may be there.
-fn label_of(
-    alloc: Global,
-    text: &str,
-    occurrence: &Occurrence,
-    expected: Expected<'_>,
-) -> Result<Option<String>, AllocError> {
-    let name = name_of(text, *occurrence);
-    let mut label = String::new(alloc);
-    if name.kind == NameKind::Term {
-        label.push_str("-")?;
-    }
-    label.push_str(name.name)?;
-    let fits = match (expected, name.attribute) {
-        (Expected::Variables, None) => name.kind == NameKind::Variable,
-        (Expected::Terms, None) => occurrence.defines && name.kind == NameKind::Term,
-        (Expected::MessagesAndTerms, None) => occurrence.defines,
-        (Expected::AttributesOf(owner), Some(_)) => occurrence.defines && label.as_str() == owner,
-        _ => false,
-    };
-    if !fits {
-        return Ok(None);
-    }
-    match name.attribute {
-        None => Ok(Some(label)),
-        Some(attribute) => Ok(Some(String::from_str(alloc, attribute)?)),
-    }
-}
-
-/// The names that may be at the place, each once, in the order of their bytes.
+/// The names that may be at the place, each once, in the order of their bytes. `AllocError` where a growth was refused.
 pub fn completion(alloc: Global, context: &RequestContext<'_>) -> Result<Value, AllocError> {
-    let mut list = Vec::new(alloc);
     let Some(here) = context.here() else {
-        return Ok(Value::Array(list));
+        return Ok(Value::Array(Vec::new(alloc)));
     };
-    let expected = expected_at(here.text, context.byte);
-    let mut labels = BTreeMap::new(alloc);
+    let end = context.byte;
+    let begin = begin_of_name(here.text.as_bytes(), end);
+    let expected = expected_at(alloc, here.text, begin, end)?;
+    let mut candidates = Candidates::new(alloc);
+    add_of_original(alloc, &mut candidates, context, here, expected)?;
     for document in &context.documents {
+        let is_here = document.uri == here.uri;
         for occurrence in document.occurrences() {
-            if let Some(label) = label_of(alloc, document.text, occurrence, expected)? {
-                drop(labels.insert(label, occurrence.kind)?);
+            // what is typed is itself no name to offer
+            if !(is_here && occurrence.is_at(end)) {
+                add_name(
+                    alloc,
+                    &mut candidates,
+                    document,
+                    occurrence,
+                    expected,
+                    is_here,
+                )?;
             }
         }
     }
-    for (label, kind) in labels.iter() {
-        list.push(item_form(alloc, label.as_str(), *kind)?)?;
+    add_given(alloc, &mut candidates, context, here, expected)?;
+    let start = match expected {
+        Expected::Variables => begin.saturating_sub(1),
+        _ => begin,
+    };
+    candidates.item_list(here.text, Span { start, end })
+}
+
+/// Offers what the document's original has of what is expected, if there is one.
+fn add_of_original(
+    alloc: Global,
+    candidates: &mut Candidates,
+    context: &RequestContext<'_>,
+    here: &IndexedDocument<'_>,
+    expected: Expected<'_>,
+) -> Result<(), AllocError> {
+    let Some(original) = &context.original else {
+        return Ok(());
+    };
+    let entry = entry_name_at(here.text, context.byte);
+    match expected {
+        Expected::Entries => add_entries(alloc, candidates, here, original),
+        Expected::Attributes => add_attributes(alloc, candidates, here, original, entry),
+        Expected::VariantKeys => add_keys(alloc, candidates, original, entry),
+        Expected::Variables => add_variables(alloc, candidates, original, entry),
+        _ => Ok(()),
     }
-    Ok(Value::Array(list))
+}
+
+/// Offers the name, or the attribute, where it is expected; of a variable first those of the document itself.
+fn add_name(
+    alloc: Global,
+    candidates: &mut Candidates,
+    document: &IndexedDocument<'_>,
+    occurrence: &Occurrence,
+    expected: Expected<'_>,
+    is_here: bool,
+) -> Result<(), AllocError> {
+    let name = name_of(document.text, *occurrence);
+    let defines = occurrence.defines;
+    let (kind, rank) = match (expected, name.kind, name.attribute) {
+        (Expected::AttributesOf(owner), kind, Some(attribute)) => {
+            if defines && kind == owner.kind && name.name == owner.name {
+                let label = String::from_str(alloc, attribute)?;
+                candidates.offer(label, CandidateKind::Attribute, 0)?;
+            }
+            return Ok(());
+        }
+        (Expected::Variables, NameKind::Variable, None) => {
+            (CandidateKind::Variable, if is_here { 1 } else { 2 })
+        }
+        (Expected::References | Expected::Terms, NameKind::Term, None) if defines => {
+            (CandidateKind::Variable, 0)
+        }
+        (Expected::References, NameKind::Message, None) if defines => (CandidateKind::Message, 0),
+        (Expected::References, NameKind::Function, None) => (CandidateKind::Function, 1),
+        _ => return Ok(()),
+    };
+    candidates.offer(label_of(alloc, name)?, kind, rank)
+}
+
+/// Offers the names that no file has to define: the functions of Fluent, and the plural categories of the language.
+fn add_given(
+    alloc: Global,
+    candidates: &mut Candidates,
+    context: &RequestContext<'_>,
+    here: &IndexedDocument<'_>,
+    expected: Expected<'_>,
+) -> Result<(), AllocError> {
+    match expected {
+        Expected::References => {
+            for name in &FUNCTIONS {
+                let label = String::from_str(alloc, *name)?;
+                candidates.offer(label, CandidateKind::Function, 1)?;
+            }
+        }
+        Expected::VariantKeys => {
+            let categories = context.workspace.set_of(here.path).categories();
+            for name in categories.unwrap_or(&[]) {
+                let label = String::from_str(alloc, *name)?;
+                candidates.offer(label, CandidateKind::VariantKey, 1)?;
+            }
+        }
+        _ => {}
+    }
+    Ok(())
 }

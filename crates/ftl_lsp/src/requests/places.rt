@@ -11,7 +11,7 @@ use crate::documents::index::{IndexedDocument, Scope, indexed_document_at, index
 use crate::documents::offsets::byte_of;
 use crate::requests::completion::completion;
 use crate::requests::hover::hover;
-use crate::requests::renaming::rename_edits;
+use crate::requests::renaming::{rename_edits, rename_range};
 use crate::requests::request_context::RequestContext;
 use crate::sessions::methods::Method;
 use crate::sessions::params::{new_name, occurrence_filter, position_param, uri_of};
@@ -72,7 +72,10 @@ impl Server {
             (λ found. is_some found ≡ names_position (texts self.now.documents) (view message.now)) }
     {
         match self.context_of(message)? {
-            Some(context) => Ok(Some(place_value(self.alloc, method, message, &context)?)),
+            Some(context) => {
+                let value = place_value(self.alloc, method, message, &context, self.markdown)?;
+                Ok(Some(value))
+            },
             None => Ok(None),
         }
     }
@@ -99,18 +102,20 @@ impl Server {
     }
 }
 
-/// What a request of the method asks of a place. `AllocError` where a growth was refused.
+/// What a request of the method asks of a place; what is shown may be Markdown where the editor takes that. `AllocError` where a growth was refused.
 fn place_value(
     alloc: Global,
     method: Option<Method>,
     message: &Value,
     context: &RequestContext<'_>,
+    markdown: bool,
 ) -> Result<Value, AllocError> {
     match method {
         Some(Method::Definition) => context.definitions(alloc),
         Some(Method::References) => context.locations(alloc, occurrence_filter(message)),
         Some(Method::DocumentHighlight) => context.highlights(alloc),
-        Some(Method::Hover) => hover(alloc, context),
+        Some(Method::Hover) => hover(alloc, context, markdown),
+        Some(Method::PrepareRename) => rename_range(alloc, context),
         Some(Method::Completion) => completion(alloc, context),
         _ => Ok(Value::Null),
     }

@@ -12,11 +12,13 @@ ghost use Rattle.ftl_lsp.specs.Params.{new_name_in};
 ghost use Rattle.ftl_lsp.specs.Renaming.{AsksToRename, IsIdentifierOf, RenamesAt, RenamesIn, RenamesName};
 
 use crate::documents::index::{IndexedDocument, OccurrenceFilter};
-use crate::documents::occurrences::{Name, NameKind};
+use crate::documents::occurrences::{Name, NameKind, name_of};
 use crate::documents::positions::Positions;
 use crate::requests::request_context::RequestContext;
 use crate::sessions::phases::RenameFault;
-use crate::sessions::replies::{edit_form, edits_of_document, renaming_form};
+use crate::sessions::replies::{
+    edit_form, edits_of_document, named_range_form, null, renaming_form,
+};
 use fluent_syntax_grammar::lanes::name_len;
 use serde_json::Value;
 use std::alloc::{AllocError, Global};
@@ -104,6 +106,21 @@ fn names_of<'c>(
     } else {
         // of a text that was read each name is an identifier
         Err(RenameFault::NoName)
+    }
+}
+
+/// The name at the place with its range, if it can be renamed; else null. `AllocError` where a growth was refused.
+pub fn rename_range(alloc: Global, context: &RequestContext<'_>) -> Result<Value, AllocError> {
+    let Some(here) = context.here() else {
+        return Ok(null());
+    };
+    match here.occurrence_at(context.byte) {
+        Some(found) if matches!(found.kind, NameKind::Message | NameKind::Term) => {
+            let name = name_of(here.text, found);
+            let mut positions = Positions::new(here.text);
+            named_range_form(alloc, &mut positions, found.span(), name.shown_text())
+        }
+        _ => Ok(null()),
     }
 }
 

@@ -63,13 +63,21 @@ impl RequestContext<'_> {
         Ok(Value::Array(list))
     }
 
-    /// Where the name at the place is defined, in the documents and files that are nearest; null where there is no
-    /// name. `AllocError` where a growth was refused.
+    /// Where the name at the place is defined: if it is defined there, in the original, and else, or if that doesn't
+    /// define it, in the documents and files that are nearest; null where there is no name. `AllocError` where a growth
+    /// was refused.
     pub fn definitions(&self, alloc: Global) -> Result<Value, AllocError> {
         let Some(name) = self.name() else {
             return Ok(Value::Null);
         };
         let mut list = Vec::new(alloc);
+        if let (Some(original), true) = (&self.original, self.is_definition()) {
+            let filter = OccurrenceFilter::Definitions;
+            add_locations(alloc, &mut list, original, name, filter)?;
+        }
+        if !list.is_empty() {
+            return Ok(Value::Array(list));
+        }
         for number in self.nearest(alloc, name)?.iter() {
             if let Some(document) = self.documents.get(*number) {
                 add_locations(
@@ -82,6 +90,16 @@ impl RequestContext<'_> {
             }
         }
         Ok(Value::Array(list))
+    }
+
+    /// Whether the name at the place is defined there.
+    fn is_definition(&self) -> bool {
+        match self.here() {
+            Some(here) => here
+                .occurrence_at(self.byte)
+                .is_some_and(|found| found.defines),
+            None => false,
+        }
     }
 
     /// The numbers of the documents and files that define the name and have the most folders in common with the

@@ -11,14 +11,18 @@ use crate::documents::index::{Scope, indexed_documents};
 use crate::documents::occurrences::bytes_of;
 use crate::documents::open_documents::OpenDocument;
 use crate::documents::positions::Positions;
+use crate::requests::folding::folding_ranges_in;
 use crate::requests::formatting::{formatted_text, formatting_edit};
+use crate::requests::selection_ranges::selection_range_list;
 use crate::requests::semantic_tokens::{encoded_tokens, semantic_tokens_of};
 use crate::requests::symbol_forms::{folding_range_list, symbol_list, workspace_symbol};
-use crate::requests::symbols::{folding_ranges_in, symbols_in};
+use crate::requests::symbols::symbols_in;
 use crate::requests::tokens::tokens_of;
 use crate::sessions::methods::Method;
 use crate::sessions::notices::Notice;
-use crate::sessions::params::{takes_related, uri_of};
+use crate::sessions::params::{
+    positions_param, prepares_renaming, takes_hierarchy, takes_markdown, takes_related, uri_of,
+};
 use crate::sessions::phases::ErrorCode;
 use crate::sessions::replies::{capabilities, null, token_list};
 use crate::sessions::server::Server;
@@ -44,15 +48,22 @@ impl Server {
         match method {
             Some(Method::Initialize) => {
                 self.related = takes_related(message);
+                self.markdown = takes_markdown(message);
+                self.hierarchy = takes_hierarchy(message);
                 self.workspace = Workspace::from_initialize(self.alloc, message)?;
-                Ok(Ok(capabilities(self.alloc)?))
+                Ok(Ok(capabilities(self.alloc, prepares_renaming(message))?))
             }
             Some(Method::WorkspaceSymbol) => Ok(Ok(self.workspace_symbols(message)?)),
             Some(Method::Rename) => self.rename(message),
             Some(Method::Formatting) => Ok(
                 self.formatting(message)?.ok_or(ErrorCode::InvalidParams),
             ),
-            Some(Method::DocumentSymbol | Method::FoldingRange | Method::SemanticTokens) => {
+            Some(
+                Method::DocumentSymbol
+                | Method::FoldingRange
+                | Method::SemanticTokens
+                | Method::SelectionRange,
+            ) => {
                 let found = self.document_response(method, message)?;
                 Ok(found.ok_or(ErrorCode::InvalidParams))
             }
@@ -61,6 +72,7 @@ impl Server {
                 | Method::References
                 | Method::DocumentHighlight
                 | Method::Hover
+                | Method::PrepareRename
                 | Method::Completion,
             ) => {
                 let found = self.place_response(method, message)?;
@@ -89,7 +101,10 @@ impl Server {
             ≡ names_open (texts self.now.documents) (view message.now)) }
     {
         match self.document_of(message) {
-            Some(open) => Ok(Some(document_value(self.alloc, method, &open.document)?)),
+            Some(open) => {
+                let (document, grouped) = (&open.document, self.hierarchy);
+                Ok(Some(document_value(self.alloc, method, message, document, grouped)?))
+            }
             None => Ok(None),
         }
     }
@@ -143,15 +158,17 @@ impl Server {
     }
 }
 
-/// What a request of the method asks of a document. `AllocError` where a growth was refused.
+/// What a request of the method asks of a document; symbols are `grouped` where the editor takes that. `AllocError` where a growth was refused.
 fn document_value(
     alloc: Global,
     method: Option<Method>,
+    message: &Value,
     document: &Document,
+    grouped: bool,
 ) -> Result<Value, AllocError> {
     match method {
         Some(Method::DocumentSymbol) => {
-            let symbols = symbols_in(alloc, document)?;
+            let symbols = symbols_in(alloc, document, grouped)?;
             symbol_list(alloc, document.text(), &symbols)
         }
         Some(Method::FoldingRange) => {
@@ -163,6 +180,11 @@ fn document_value(
             let highlights = semantic_tokens_of(alloc, document.text(), &tokens)?;
             token_list(alloc, &encoded_tokens(alloc, &highlights)?)
         }
+        Some(Method::SelectionRange) => selection_range_list(
+            alloc,
+            document,
+            positions_param(message),
+        ),
         _ => Ok(Value::Null),
     }
 }

@@ -1,8 +1,7 @@
-//! The messages and terms of a document, with their attributes, and what of it can be folded.
+//! The messages and terms of a document, with their attributes, and its groups.
 
 use crate::documents::Document;
-use crate::documents::entry_ranges::entry_range_of;
-use crate::documents::positions::Positions;
+use crate::documents::entry_ranges::{entry_range_of, trimmed_end};
 use fluent_syntax::ast::{Attribute, Comment, Entry};
 use fluent_syntax::spans::Span;
 use std::alloc::{AllocError, Global};
@@ -13,42 +12,109 @@ pub enum SymbolKind {
     Message,
     Term,
     Attribute,
+    /// The entries after a comment of a group.
+    Group,
 }
 
-/// A message or a term of a document, with its attributes.
+/// A message or a term of a document, with its attributes, or a group.
 #[derive(Drop)]
 pub struct Symbol {
     pub kind: SymbolKind,
-    /// The entry with its comment, without blanks after it.
+    /// The entry with its comment, without blanks after it; a group with all that is in it.
     pub whole: Span,
-    /// With the `-` of a term.
+    /// With the `-` of a term; of a group the first line of its comment that isn't empty.
     pub name: Span,
     pub attributes: Vec<Span>,
+    /// How many of the symbols after a group are in it.
+    pub members: usize,
 }
 
-/// Lines that can be folded, both from 0.
-#[derive(Clone, Copy)]
-pub struct FoldingRange {
-    pub first: usize,
-    pub last: usize,
+impl Symbol {
+    /// Where its name is with its value, and then where each attribute is, from its `.` on. `AllocError` where a growth
+    /// was refused.
+    pub fn parts(&self, alloc: Global, text: &str) -> Result<Vec<Span>, AllocError> {
+        let mut parts = Vec::new(alloc);
+        let mut start = self.name.start;
+        for attribute in &self.attributes {
+            let next = attribute.start.saturating_sub(1);
+            let end = trimmed_end(text.as_bytes(), next);
+            parts.push(Span { start, end })?;
+            start = next;
+        }
+        let end = self.whole.end;
+        parts.push(Span { start, end })?;
+        Ok(parts)
+    }
 }
 
-/// The symbols of a document, in order. None of one that nests deeper than `NESTING_LIMIT`.
-pub fn symbols_in(alloc: Global, document: &Document) -> Result<Vec<Symbol>, AllocError> {
+/// The symbols of a document, in order; with its groups, each before what is in it, if it is to be `grouped`. None of
+/// one that nests deeper than `NESTING_LIMIT`.
+pub fn symbols_in(
+    alloc: Global,
+    document: &Document,
+    grouped: bool,
+) -> Result<Vec<Symbol>, AllocError> {
+    let (text, body) = (document.text(), document.body());
     let mut found = Vec::new(alloc);
-    let body = document.body();
+    let mut group = None;
     for (number, entry) in body.iter().enumerate() {
-        if let Some(whole) = entry_range_of(document.text(), body, number) {
-            if let Some(symbol) = symbol_of(alloc, entry, whole)? {
-                found.push(symbol)?;
-            }
+        let Some(whole) = entry_range_of(text, body, number) else {
+            continue;
+        };
+        if let (true, Entry::GroupComment(comment)) = (grouped, entry) {
+            group = add_group(alloc, &mut found, comment, whole)?;
+        }
+        if let Some(symbol) = symbol_of(alloc, entry, whole)? {
+            extend_group(&mut found, group, whole.end);
+            found.push(symbol)?;
         }
     }
     Ok(found)
 }
 
-/// The symbol of an entry. None of comments and junk.
-fn symbol_of(
+/// The first line of a group's comment that isn't empty. None where all are: such a comment ends a group.
+pub fn group_title(comment: &Comment<Span>) -> Option<Span> {
+    comment
+        .content
+        .iter()
+        .find(|line| line.start < line.end)
+        .copied()
+}
+
+/// Adds the group that the comment begins, and gives its number. None where it begins none.
+fn add_group(
+    alloc: Global,
+    found: &mut Vec<Symbol>,
+    comment: &Comment<Span>,
+    whole: Span,
+) -> Result<Option<usize>, AllocError> {
+    let Some(name) = group_title(comment) else {
+        return Ok(None);
+    };
+    let number = found.len();
+    found.push(Symbol {
+        kind: SymbolKind::Group,
+        whole,
+        name,
+        attributes: Vec::new(alloc),
+        members: 0,
+    })?;
+    Ok(Some(number))
+}
+
+/// Lets the group of the number, if there is one, go on to the end of a symbol more.
+fn extend_group(found: &mut Vec<Symbol>, group: Option<usize>, end: usize) {
+    let Some(number) = group else {
+        return;
+    };
+    if let Some(symbol) = found.get_mut(number) {
+        symbol.whole.end = end;
+        symbol.members = symbol.members.saturating_add(1);
+    }
+}
+
+/// The symbol of an entry. None of comments and junk. `AllocError` where a growth was refused.
+pub fn symbol_of(
     alloc: Global,
     entry: &Entry<Span>,
     whole: Span,
@@ -67,6 +133,7 @@ fn symbol_of(
         whole,
         name,
         attributes: names_of(alloc, attributes)?,
+        members: 0,
     }))
 }
 
@@ -77,51 +144,4 @@ fn names_of(alloc: Global, attributes: &[Attribute<Span>]) -> Result<Vec<Span>, 
         names.push(attribute.id.name)?;
     }
     Ok(names)
-}
-
-/// The comments of a document that have several lines, in order.
-pub fn folding_ranges_in(
-    alloc: Global,
-    document: &Document,
-) -> Result<Vec<FoldingRange>, AllocError> {
-    let mut found = Vec::new(alloc);
-    let mut positions = Positions::new(document.text());
-    for entry in document.body() {
-        if let Some(fold) = comment_of(entry).and_then(|comment| folding_range_of(
-            &mut positions,
-            comment,
-        )) {
-            found.push(fold)?;
-        }
-    }
-    Ok(found)
-}
-
-/// The comment that an entry is, or that is attached to it.
-fn comment_of(entry: &Entry<Span>) -> Option<&Comment<Span>> {
-    match entry {
-        Entry::Comment(comment) | Entry::GroupComment(comment) | Entry::ResourceComment(comment) =>
-            Some(comment),
-        Entry::Message(message) => message.comment.as_ref(),
-        Entry::Term(term) => term.comment.as_ref(),
-        Entry::Junk { content: _ } => None,
-    }
-}
-
-/// The lines of a comment, if it has several.
-fn folding_range_of(
-    positions: &mut Positions<'_>,
-    comment: &Comment<Span>,
-) -> Option<FoldingRange> {
-    let first = positions
-        .position_or_end(comment.content.first()?.start)
-        .line;
-    let last = positions
-        .position_or_end(comment.content.last()?.start)
-        .line;
-    if first < last {
-        Some(FoldingRange { first, last })
-    } else {
-        None
-    }
 }

@@ -25,6 +25,8 @@ pub enum Method {
     Exit,
     Initialized,
     DidChangeWatchedFiles,
+    PrepareRename,
+    SelectionRange,
 }
 
 impl Method {
@@ -54,6 +56,8 @@ impl Method {
             "exit" => Some(Method::Exit),
             "initialized" => Some(Method::Initialized),
             "workspace/didChangeWatchedFiles" => Some(Method::DidChangeWatchedFiles),
+            "textDocument/prepareRename" => Some(Method::PrepareRename),
+            "textDocument/selectionRange" => Some(Method::SelectionRange),
             _ => None,
         }
     }

@@ -18,6 +18,32 @@ pub fn takes_related(message: &Value) -> bool {
         .unwrap_or(false)
 }
 
+/// Whether such an editor takes Markdown where it shows what is hovered over, before plain text.
+pub fn takes_markdown(message: &Value) -> bool {
+    let format = message
+        .pointer("/params/capabilities/textDocument/hover/contentFormat/0")
+        .and_then(Value::as_str);
+    format == Some("markdown")
+}
+
+/// Whether such an editor takes symbols in symbols.
+pub fn takes_hierarchy(message: &Value) -> bool {
+    message
+        .pointer(
+            "/params/capabilities/textDocument/documentSymbol/hierarchicalDocumentSymbolSupport",
+        )
+        .and_then(Value::as_bool)
+        .unwrap_or(false)
+}
+
+/// Whether such an editor asks what is to be renamed before it renames it.
+pub fn prepares_renaming(message: &Value) -> bool {
+    message
+        .pointer("/params/capabilities/textDocument/rename/prepareSupport")
+        .and_then(Value::as_bool)
+        .unwrap_or(false)
+}
+
 /// The name of the document that a message speaks of.
 pub fn uri_of(message: &Value) -> Option<&str>
     ensures { option_map (λ uri. uri.now) result ≡ uri_in (view message.now) }
@@ -61,6 +87,17 @@ pub fn position_param(message: &Value) -> Option<Position>
     match message.pointer("/params/position") {
         Some(value) => position_of(value),
         None => None,
+    }
+}
+
+/// The places that a message asks of, as values.
+pub fn positions_param(message: &Value) -> &[Value] {
+    match message
+        .pointer("/params/positions")
+        .and_then(Value::as_array)
+    {
+        Some(values) => values.as_slice(),
+        None => &[],
     }
 }
 

@@ -118,7 +118,9 @@ impl Phase {
                     | Method::Rename
                     | Method::Completion
                     | Method::WorkspaceSymbol
-                    | Method::SemanticTokens,
+                    | Method::SemanticTokens
+                    | Method::PrepareRename
+                    | Method::SelectionRange,
                 ),
             ) => None,
             (Phase::Running, _) => Some(ErrorCode::MethodNotFound),

@@ -6,7 +6,6 @@ ghost use Rattle.ftl_lsp.specs.Locations.{edit_form, position_form, range_form, 
 ghost use Rattle.ftl_lsp.specs.Renaming.{document_edits_form, renaming_form, version_form};
 ghost use Rattle.ftl_lsp.specs.Replies.{answer_form, diagnostics_form, diagnostics_params, refusal_form, register_form};
 
-use crate::documents::occurrences::NameKind;
 use crate::documents::positions::{Position, Positions};
 use crate::sessions::phases::ErrorCode;
 use fluent_syntax::spans::Span;
@@ -34,13 +33,14 @@ pub fn null() -> Value
     Value::Null
 }
 
-/// What the server can do.
-pub fn capabilities(alloc: Global) -> Result<Value, AllocError> {
-    json!(in alloc; {"capabilities": (provider_capabilities(alloc)?), "serverInfo": {"name": "ftl"}})
+/// What the server can do, for an editor that asks before it renames or not.
+pub fn capabilities(alloc: Global, prepares_renaming: bool) -> Result<Value, AllocError> {
+    let able = provider_capabilities(alloc, prepares_renaming)?;
+    json!(in alloc; {"capabilities": able, "serverInfo": {"name": "ftl"}})
 }
 
 /// The parts of the protocol that the server answers, each by its name.
-fn provider_capabilities(alloc: Global) -> Result<Value, AllocError> {
+fn provider_capabilities(alloc: Global, prepares_renaming: bool) -> Result<Value, AllocError> {
     json!(in alloc; {
         "positionEncoding": "utf-16",
         "textDocumentSync": (document_sync(alloc)?),
@@ -50,8 +50,9 @@ fn provider_capabilities(alloc: Global) -> Result<Value, AllocError> {
         "definitionProvider": true,
         "referencesProvider": true,
         "documentHighlightProvider": true,
+        "selectionRangeProvider": true,
         "hoverProvider": true,
-        "renameProvider": true,
+        "renameProvider": (rename_provider(alloc, prepares_renaming)?),
         "completionProvider": (completion_provider(alloc)?),
         "workspaceSymbolProvider": true,
         "semanticTokensProvider": (tokens_provider(alloc)?)
@@ -63,9 +64,18 @@ fn document_sync(alloc: Global) -> Result<Value, AllocError> {
     json!(in alloc; {"openClose": true, "change": 2, "save": true})
 }
 
+/// What is said of renaming: that it can be asked before what would be renamed, if the editor knows of that.
+fn rename_provider(alloc: Global, prepares: bool) -> Result<Value, AllocError> {
+    if prepares {
+        json!(in alloc; {"prepareProvider": true})
+    } else {
+        json!(in alloc; true)
+    }
+}
+
 /// The characters after which names are proposed.
 fn completion_provider(alloc: Global) -> Result<Value, AllocError> {
-    json!(in alloc; {"triggerCharacters": (text_list(alloc, &["{", "-", "$", "."])?)})
+    json!(in alloc; {"triggerCharacters": (text_list(alloc, &["{", "-", "$", ".", "["])?)})
 }
 
 /// The kinds of tokens, by whose places in the list the tokens name them.
@@ -197,6 +207,31 @@ pub fn highlight_form(
     json!(in alloc; {"range": range})
 }
 
+/// A name that can be renamed, with its place. `AllocError` where a growth was refused.
+pub fn named_range_form(
+    alloc: Global,
+    positions: &mut Positions<'_>,
+    span: Span,
+    name: &str,
+) -> Result<Value, AllocError> {
+    let range = span_form(alloc, positions, span)?;
+    json!(in alloc; {"range": range, "placeholder": name})
+}
+
+/// A range in another, or in none. `AllocError` where a growth was refused.
+pub fn nested_range_form(
+    alloc: Global,
+    positions: &mut Positions<'_>,
+    span: Span,
+    parent: Value,
+) -> Result<Value, AllocError> {
+    let range = span_form(alloc, positions, span)?;
+    if parent.is_null() {
+        return json!(in alloc; {"range": range});
+    }
+    json!(in alloc; {"range": range, "parent": parent})
+}
+
 /// The edit that puts a text in place of a stretch. `AllocError` where a growth was refused.
 pub fn edit_form(
     alloc: Global,
@@ -242,16 +277,6 @@ fn version_form(alloc: Global, version: Option<i64>) -> Result<Value, AllocError
         Some(version) => json!(in alloc; version),
         None => Ok(Value::Null),
     }
-}
-
-/// A name that may be chosen.
-pub fn item_form(alloc: Global, label: &str, kind: NameKind) -> Result<Value, AllocError> {
-    let number: u64 = match kind {
-        NameKind::Message => 21,
-        NameKind::Term | NameKind::Variable => 6,
-        NameKind::Function => 3,
-    };
-    json!(in alloc; {"label": label, "kind": number})
 }
 
 /// A range, by its two places.

@@ -28,6 +28,10 @@ pub struct Server {
     pub(crate) phase: Phase,
     /// Whether the editor takes related information of a diagnostic.
     pub(crate) related: bool,
+    /// Whether it takes Markdown where it shows what is hovered over.
+    pub(crate) markdown: bool,
+    /// Whether it takes symbols in symbols.
+    pub(crate) hierarchy: bool,
     pub(crate) documents: Documents,
     /// The names of documents of which is still to be published again.
     pub(crate) stale: Vec<String>,
@@ -50,6 +54,8 @@ impl Server {
             alloc,
             phase: Phase::Fresh,
             related: false,
+            markdown: false,
+            hierarchy: false,
             documents: Documents::new(alloc),
             stale: Vec::new(alloc),
             notices: Vec::new(alloc),
