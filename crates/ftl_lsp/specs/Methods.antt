@@ -8,6 +8,7 @@ use Rattle.ftl_lsp.specs.declared.sessions.methods.Method.TheVariants.{Definitio
 use Rattle.ftl_lsp.specs.declared.sessions.methods.Method.TheVariants.{Hover, Rename, Completion, WorkspaceSymbol}
 use Rattle.ftl_lsp.specs.declared.sessions.methods.Method.TheVariants.{SemanticTokens, Initialized}
 use Rattle.ftl_lsp.specs.declared.sessions.methods.Method.TheVariants.{DidChangeWatchedFiles, PrepareRename, SelectionRange}
+use Rattle.ftl_lsp.specs.declared.sessions.methods.Method.TheVariants.{DidChangeWorkspaceFolders}
 
 abbrev pub name_of : Method → List ℕ
 name_of Initialize = codes "initialize"
@@ -30,5 +31,6 @@ name_of DidSave = codes "textDocument/didSave"
 name_of Exit = codes "exit"
 name_of Initialized = codes "initialized"
 name_of DidChangeWatchedFiles = codes "workspace/didChangeWatchedFiles"
+name_of DidChangeWorkspaceFolders = codes "workspace/didChangeWorkspaceFolders"
 name_of PrepareRename = codes "textDocument/prepareRename"
 name_of SelectionRange = codes "textDocument/selectionRange"

@@ -11,6 +11,7 @@ use Rattle.ftl_lsp.specs.declared.sessions.methods.Method.TheVariants.{Hover, Co
 use Rattle.ftl_lsp.specs.declared.sessions.methods.Method.TheVariants as methods
 use Rattle.ftl_lsp.specs.declared.sessions.methods.Method.TheVariants.{SemanticTokens, Initialized}
 use Rattle.ftl_lsp.specs.declared.sessions.methods.Method.TheVariants.{DidChangeWatchedFiles, PrepareRename, SelectionRange}
+use Rattle.ftl_lsp.specs.declared.sessions.methods.Method.TheVariants.{DidChangeWorkspaceFolders}
 use Rattle.ftl_lsp.specs.declared.sessions.phases.Phase.{Phase}
 use Rattle.ftl_lsp.specs.declared.sessions.phases.Phase.TheVariants.{Fresh, Running, ShutDown, Exited, Left}
 use Rattle.ftl_lsp.specs.declared.sessions.phases.ErrorCode.{ErrorCode}
@@ -72,6 +73,7 @@ refusal_after (Some DidSave) = Some MethodNotFound
 refusal_after (Some Exit) = Some MethodNotFound
 refusal_after (Some Initialized) = Some MethodNotFound
 refusal_after (Some DidChangeWatchedFiles) = Some MethodNotFound
+refusal_after (Some DidChangeWorkspaceFolders) = Some MethodNotFound
 refusal_after None = Some MethodNotFound
 
 -- after `shutdown` every request is refused

@@ -54,11 +54,8 @@ impl Workspace {
     /// The workspace that an editor names in its `initialize`. No file was read.
     pub fn from_initialize(alloc: Global, message: &Value) -> Result<Self, AllocError> {
         let mut folders = Vec::new(alloc);
-        for uri in folder_uris(alloc, message)?.iter() {
-            if let Some(path) = path_of_uri(alloc, *uri)? {
-                let path = path.as_str().trim_end_matches('/');
-                folders.push(WorkspaceFolder::new(alloc, path)?)?;
-            }
+        for path in folder_paths(alloc, &folder_uris(alloc, message)?)?.iter() {
+            folders.push(WorkspaceFolder::new(alloc, path.as_str())?)?;
         }
         Ok(Workspace {
             folders,
@@ -68,6 +65,22 @@ impl Workspace {
             defined: BTreeMap::new(alloc),
             can_watch: can_watch(message),
         })
+    }
+
+    /// Takes the folders that an editor says come and go. No file is read.
+    pub fn change_folders(&mut self, alloc: Global, message: &Value) -> Result<(), AllocError> {
+        let removed = uris_at(alloc, message, "/params/event/removed")?;
+        for path in folder_paths(alloc, &removed)?.iter() {
+            self.folders.retain(|folder| folder.path != *path);
+        }
+        let added = uris_at(alloc, message, "/params/event/added")?;
+        for path in folder_paths(alloc, &added)?.iter() {
+            if !self.folders.iter().any(|folder| folder.path == *path) {
+                self.folders
+                    .push(WorkspaceFolder::new(alloc, path.as_str())?)?;
+            }
+        }
+        Ok(())
     }
 
     /// The files, by their paths.
@@ -321,25 +334,40 @@ fn is_open(documents: &BTreeMap<String, OpenDocument>, path: &str) -> bool {
 
 /// The URIs of the folders that an editor names, or of its one folder.
 fn folder_uris(alloc: Global, message: &Value) -> Result<Vec<&str>, AllocError> {
+    let folders = "/params/workspaceFolders";
+    if message.pointer(folders).and_then(Value::as_array).is_some() {
+        return uris_at(alloc, message, folders);
+    }
     let mut uris = Vec::new(alloc);
-    match message
-        .pointer("/params/workspaceFolders")
-        .and_then(Value::as_array)
-    {
-        Some(folders) => {
-            for folder in folders {
-                if let Some(uri) = folder.get("uri").and_then(Value::as_str) {
-                    uris.push(uri)?;
-                }
-            }
-        }
-        None => {
-            if let Some(uri) = message.pointer("/params/rootUri").and_then(Value::as_str) {
+    if let Some(uri) = message.pointer("/params/rootUri").and_then(Value::as_str) {
+        uris.push(uri)?;
+    }
+    Ok(uris)
+}
+
+/// The URIs of the folders in the list at the place.
+fn uris_at<'m>(alloc: Global, message: &'m Value, place: &str) -> Result<Vec<&'m str>, AllocError> {
+    let mut uris = Vec::new(alloc);
+    if let Some(folders) = message.pointer(place).and_then(Value::as_array) {
+        for folder in folders {
+            if let Some(uri) = folder.get("uri").and_then(Value::as_str) {
                 uris.push(uri)?;
             }
         }
     }
     Ok(uris)
+}
+
+/// The paths of the folders with these URIs, without a `/` at their ends. One that is no file's has none.
+fn folder_paths(alloc: Global, uris: &[&str]) -> Result<Vec<String>, AllocError> {
+    let mut paths = Vec::new(alloc);
+    for uri in uris {
+        if let Some(path) = path_of_uri(alloc, *uri)? {
+            let path = path.as_str().trim_end_matches('/');
+            paths.push(String::from_str(alloc, path)?)?;
+        }
+    }
+    Ok(paths)
 }
 
 /// Whether an editor that says this of itself can be asked to watch files.

@@ -70,6 +70,12 @@ impl Server {
 fn affects_others(method: Option<Method>) -> bool {
     matches!(
         method,
-        Some(Method::DidOpen | Method::DidSave | Method::DidClose | Method::DidChangeWatchedFiles)
+        Some(
+            Method::DidOpen
+                | Method::DidSave
+                | Method::DidClose
+                | Method::DidChangeWatchedFiles
+                | Method::DidChangeWorkspaceFolders
+        )
     )
 }

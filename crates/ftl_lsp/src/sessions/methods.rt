@@ -25,6 +25,7 @@ pub enum Method {
     Exit,
     Initialized,
     DidChangeWatchedFiles,
+    DidChangeWorkspaceFolders,
     PrepareRename,
     SelectionRange,
 }
@@ -56,6 +57,7 @@ impl Method {
             "exit" => Some(Method::Exit),
             "initialized" => Some(Method::Initialized),
             "workspace/didChangeWatchedFiles" => Some(Method::DidChangeWatchedFiles),
+            "workspace/didChangeWorkspaceFolders" => Some(Method::DidChangeWorkspaceFolders),
             "textDocument/prepareRename" => Some(Method::PrepareRename),
             "textDocument/selectionRange" => Some(Method::SelectionRange),
             _ => None,

@@ -33,10 +33,18 @@ pub fn null() -> Value
     Value::Null
 }
 
+/// The version of the server.
+const VERSION: &str = "2.4.0";
+
 /// What the server can do, for an editor that asks before it renames or not.
 pub fn capabilities(alloc: Global, prepares_renaming: bool) -> Result<Value, AllocError> {
     let able = provider_capabilities(alloc, prepares_renaming)?;
-    json!(in alloc; {"capabilities": able, "serverInfo": {"name": "ftl"}})
+    json!(in alloc; {"capabilities": able, "serverInfo": {"name": "ftl", "version": VERSION}})
+}
+
+/// That the server is notified of folders that come and go.
+fn workspace_capabilities(alloc: Global) -> Result<Value, AllocError> {
+    json!(in alloc; {"workspaceFolders": {"supported": true, "changeNotifications": true}})
 }
 
 /// The parts of the protocol that the server answers, each by its name.
@@ -54,6 +62,7 @@ fn provider_capabilities(alloc: Global, prepares_renaming: bool) -> Result<Value
         "hoverProvider": true,
         "renameProvider": (rename_provider(alloc, prepares_renaming)?),
         "completionProvider": (completion_provider(alloc)?),
+        "workspace": (workspace_capabilities(alloc)?),
         "workspaceSymbolProvider": true,
         "semanticTokensProvider": (tokens_provider(alloc)?)
     })

@@ -115,6 +115,16 @@ impl Server {
         Ok(())
     }
 
+    /// Takes the folders that come and go, if a notification of the method names such.
+    fn change_folders(&mut self, method: Option<Method>, message: &Value) -> Result<(), AllocError>
+        ensures { OnOk result (session_of self.new ≡ session_of self.old) }
+    {
+        if method == Some(Method::DidChangeWorkspaceFolders) {
+            self.workspace.change_folders(self.alloc, message)?;
+        }
+        Ok(())
+    }
+
     /// Refuses the request with the identifier.
     fn refuse(&self, id: Value, code: ErrorCode) -> Result<Option<Value>, AllocError>
         ensures { IfOk result (λ sent. IsSent (refused (view id) code) (option_map view sent)) }
@@ -165,6 +175,7 @@ impl Server {
             self.phase = self.phase.after_notification(method);
             return Ok(None);
         };
+        self.change_folders(method, message)?;
         self.read_files(changes_files(method), files)?;
         let sent = self.handle_notification(method, message)?;
         self.mark_stale(method, message)?;
@@ -177,6 +188,11 @@ impl Server {
 fn changes_files(method: Option<Method>) -> bool {
     matches!(
         method,
-        Some(Method::Initialized | Method::DidClose | Method::DidChangeWatchedFiles)
+        Some(
+            Method::Initialized
+                | Method::DidClose
+                | Method::DidChangeWatchedFiles
+                | Method::DidChangeWorkspaceFolders
+        )
     )
 }

@@ -6,6 +6,7 @@ use Rattle.ftl_lsp.specs.declared.sessions.methods.Method.TheVariants.{Reference
 use Rattle.ftl_lsp.specs.declared.sessions.methods.Method.TheVariants.{Completion, WorkspaceSymbol, SemanticTokens}
 use Rattle.ftl_lsp.specs.declared.sessions.methods.Method.TheVariants.{DidOpen, DidChange, DidClose, DidSave, Exit}
 use Rattle.ftl_lsp.specs.declared.sessions.methods.Method.TheVariants.{Initialized, DidChangeWatchedFiles}
+use Rattle.ftl_lsp.specs.declared.sessions.methods.Method.TheVariants.{DidChangeWorkspaceFolders}
 use Rattle.ftl_lsp.specs.declared.sessions.methods.Method.TheVariants.{PrepareRename, SelectionRange}
 use Rattle.ftl_lsp.proofs.sessions.methods.Method.from_name.Goals as goal
 
@@ -32,6 +33,7 @@ returns-in_default-clause-other c =
       | Exit ↦ λ e. c.in_default.not-exit (sym e)
       | Initialized ↦ λ e. c.in_default.not-initialized (sym e)
       | DidChangeWatchedFiles ↦ λ e. c.in_default.not-text-16 (sym e)
-      | PrepareRename ↦ λ e. c.in_default.not-text-17 (sym e)
-      | SelectionRange ↦ λ e. c.in_default.not-text-18 (sym e)
+      | DidChangeWorkspaceFolders ↦ λ e. c.in_default.not-text-17 (sym e)
+      | PrepareRename ↦ λ e. c.in_default.not-text-18 (sym e)
+      | SelectionRange ↦ λ e. c.in_default.not-text-19 (sym e)
     ]
