@@ -162,7 +162,7 @@ impl Workspace {
     /// folders, and no file of its set was left out.
     pub fn is_complete_for(&self, path: &str) -> bool {
         let set = self.set_of(path);
-        let left_out = self.left_out.iter();
+        let mut left_out = self.left_out.iter();
         self.is_whole
             && self.covers(path)
             && !left_out.any(|left| self.set_by_language(left.as_str()) == set)
