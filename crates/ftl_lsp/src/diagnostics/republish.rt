@@ -13,7 +13,7 @@ use std::alloc::AllocError;
 
 impl Server {
     /// Notes which documents are stale after a notification of the method, since other findings may be in them now:
-    /// all that are open in the workspace, but for the one that it names.
+    /// all that are open in the workspace, but for the one that it names; where folders come and go, all that are open.
     pub(crate) fn mark_stale(
         &mut self,
         method: Option<Method>,
@@ -22,16 +22,21 @@ impl Server {
         ensures { OnOk result (session_of self.new ≡ session_of self.old) }
     {
         if affects_others(method) {
-            self.stale = self.other_open_documents(uri_of(message))?;
+            let everywhere = method == Some(Method::DidChangeWorkspaceFolders);
+            self.stale = self.other_open_documents(uri_of(message), everywhere)?;
         }
         Ok(())
     }
 
-    /// The names of the documents that are open in the workspace, but for this one.
-    fn other_open_documents(&self, uri: Option<&str>) -> Result<Vec<String>, AllocError> {
+    /// The names of the documents that are open in the workspace, or everywhere, but for this one.
+    fn other_open_documents(
+        &self,
+        uri: Option<&str>,
+        everywhere: bool,
+    ) -> Result<Vec<String>, AllocError> {
         let mut names = Vec::new(self.alloc);
         for (name, open) in self.documents.by_name().iter() {
-            if uri != Some(name.as_str()) && self.is_in_workspace(open) {
+            if uri != Some(name.as_str()) && (everywhere || self.is_in_workspace(open)) {
                 names.push(String::from_str(self.alloc, name.as_str())?)?;
             }
         }
