@@ -130,4 +130,4 @@ pub record PublishesDiagnostics (uri t : List ℕ) (list : List Data) : Type 0 w
   pub lint_diagnostics : All IsLintDiagnostic others
   pub more : ℕ
   pub counts_errors : more_errors ≤ more
-  pub publishes_each : list ≡ map (error_form uri takes_related) errors ++ others ++ count_list more
+  pub publishes_each : list ≡ map (error_form uri takes_related) errors ++ (others ++ count_list more)

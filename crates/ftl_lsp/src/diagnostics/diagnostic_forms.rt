@@ -205,8 +205,18 @@ pub fn count_list(alloc: Global, more: usize) -> Result<Vec<Value>, AllocError>
     Ok(list)
 }
 
-/// The diagnostic of a document whose file is left out. `AllocError` where a growth was refused.
-pub fn left_out_form(alloc: Global) -> Result<Value, AllocError>
+/// The diagnostic of a document whose file is left out, if it is. `AllocError` where a growth was refused.
+pub fn left_out_list(alloc: Global, is_left_out: bool) -> Result<Vec<Value>, AllocError>
+    ensures { IfOk result (λ list. All IsLintDiagnostic (map view list.items)) }
+{
+    let mut list = Vec::new(alloc);
+    if is_left_out {
+        list.push(left_out_form(alloc)?)?;
+    }
+    Ok(list)
+}
+
+fn left_out_form(alloc: Global) -> Result<Value, AllocError>
     ensures { IfOk result (λ value. IsLintDiagnostic (view value)) }
 {
     warning_at_begin(

@@ -7,7 +7,7 @@ ghost use Rattle.ftl_lsp.specs.Sessions.{published, session_of};
 ghost use Rattle.ftl_lsp.specs.DiagnosticForms.{IsLintDiagnostic};
 
 use crate::diagnostics::diagnostic_forms::{
-    LintDiagnostic, count_list, error_list, left_out_form, lint_diagnostic_list,
+    LintDiagnostic, count_list, error_list, left_out_list, lint_diagnostic_list,
 };
 use crate::diagnostics::differences::differences_of;
 use crate::diagnostics::lint_diagnostics::finding_diagnostics;
@@ -91,9 +91,8 @@ impl Server {
         let shown = all.len().min(room);
         let first = all.get(..shown).unwrap_or(&[]);
         let mut list = lint_diagnostic_list(self.alloc, first, self.related, self.levels_of(open))?;
-        if self.is_left_out(open) {
-            list.push(left_out_form(self.alloc)?)?;
-        }
+        let mut left_out = left_out_list(self.alloc, self.is_left_out(open))?;
+        list.append(&mut left_out)?;
         Ok((list, all.len() - shown))
     }
 

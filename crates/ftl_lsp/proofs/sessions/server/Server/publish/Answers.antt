@@ -1,4 +1,5 @@
 use Rattle.std.proofs.Common.{ℕ, arith, map, subst, sym}
+use Rattle.std.specs.Prelude.{string_bytes}
 use Rattle.ftl_lsp.specs.Diagnostics.{DiagnosesText, shown}
 use Rattle.ftl_lsp.specs.Sessions.{session_of}
 use Rattle.ftl_lsp.proofs.SessionLemmas.{open_text_is_published, diagnostics_of_text_are_published}
@@ -17,7 +18,8 @@ returns-clause-sent c =
     (diagnostics_of_text_are_published _ _ c.look_up_names.new.self.related c.diagnostics-errors.result.now
     c.more_errors.result c.saturating_add-more.result c.in_ok-list.list.items c.in_ok-others.others.items
     c.in_ok-count.count.items c.append.new.self.items c.append-2.new.self.items
-    (subst (λ (n : ℕ). ∥ DiagnosesText _ (map shown c.diagnostics-errors.result.now) n ∥₁) (sym c.more_errors.ensures)
+    (subst (λ (n : ℕ). ∥ DiagnosesText (string_bytes c.in-Some.open.now.document.text)
+    (map shown c.diagnostics-errors.result.now) n ∥₁) (sym c.more_errors.ensures)
     c.diagnostics-errors.ensures)
     c.in_ok-list.ensures c.in_ok-others.ensures c.in_ok-count.ensures
     (let sum = c.saturating_add-more.ensures in let fits = c.more_errors.type_inv in omega arith)
