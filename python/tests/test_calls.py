@@ -189,10 +189,27 @@ class Spans(unittest.TestCase):
         assert key.value and isinstance(key.value.elements[1], ast.Placeable)
         select = key.value.elements[1].expression
         assert isinstance(select, ast.SelectExpression)
-        self.assertIsNone(select.variants[0].value.span)
+        self.assertEqual([text[it.span.start:it.span.end] for it in (
+            key.value.elements[1], select, select.selector, select.variants[0], select.variants[0].value,
+            key.attributes[0]) if it.span],
+            ["{ $x ->\n   *[a] ä\n }", "$x ->\n   *[a] ä", "$x", "*[a] ä", "ä", ".title =\n    T"])
         bare = dovelectern.parse(text, with_spans=False).body[0]
         assert isinstance(bare, ast.Message) and bare.value
         self.assertIsNone(bare.value.span)
+
+    def test_calls(self) -> None:
+        text = 'a = ü{ -t.b( 1, c : "é" , ) ->\n *[ x ] y\n}{ F() } { m.n }\n'
+        (entry,) = dovelectern.parse(text).body
+        assert isinstance(entry, ast.Message) and entry.value
+        select, function, _, reference = [it.expression if isinstance(it, ast.Placeable) else it
+                                          for it in entry.value.elements[1:]]
+        assert isinstance(select, ast.SelectExpression)
+        term = select.selector
+        assert isinstance(term, ast.TermReference) and term.arguments
+        found = [term, term.attribute, term.arguments, *term.arguments.positional, *term.arguments.named, function,
+                 reference]
+        self.assertEqual([text[it.span.start:it.span.end] for it in found if it and it.span],
+                         ['-t.b( 1, c : "é" , )', "b", '( 1, c : "é" , )', "1", 'c : "é"', "F()", "m.n"])
 
     def test_entries(self) -> None:
         """Entries without their last line end, and with the comment before them; comments by themselves."""
