@@ -262,7 +262,7 @@ static void nodes_beside_names(uint32_t edition, const uint8_t *text, size_t tex
             if (--depth > 0)
                 left[depth - 1]--;
     }
-    if (depth != 0 || name != names_count)
+    if (depth != 0 || name != names_count || count > text_len)
         fault(NODES, "another number of nodes", text_len, count);
     free(nodes);
     free(names);
