@@ -158,7 +158,7 @@ class Texts(unittest.TestCase):
         """Each node is spelled as it should be where its span is, within what holds it; and is read there alone."""
         for text, _ in TEXTS:
             with self.subTest(text=text):
-                tree = dovelectern.parse(text)
+                tree = dovelectern.parse(text, element_spans=True)
                 for node in nodes_in(tree.body):
                     there = text[node.span.start:node.span.end]
                     self.assertTrue(is_spelled(node, there), (node, there))

@@ -15,21 +15,22 @@ Answer = TypeVar("Answer")
 Path = Union[str, "os.PathLike[str]", bytes, "os.PathLike[bytes]"]
 
 
-def parse(text: Text, *, nesting: int = NESTING, with_spans: bool = True) -> ast.Resource:
+def parse(text: Text, *, nesting: int = NESTING, with_spans: bool = True,
+          element_spans: bool = False) -> ast.Resource:
     """The tree of a text, by edition one of the grammar. What was refused is a `Junk`, with its error as annotation.
 
     `TooDeep`: placeables and argument lists nest more than `nesting` deep, or more than Python's recursion takes.
     `UnicodeDecodeError`: bytes that are not UTF-8. `UnicodeEncodeError`: a str with a surrogate. `TypeError`: no text.
-    Without `with_spans` no node has a span.
+    Without `with_spans` no node has a span; with `element_spans` each node within a value has one too.
     """
     data, depth = _library.as_bytes(text), _library.as_nesting(nesting)
     try:
         with no_collection():
-            tree, has_errors = _reading.resource(data, depth, with_spans)
+            tree, has_errors = _reading.resource(data, depth, with_spans, element_spans)
             if has_errors:
                 _annotate(tree, _errors(data, 1, depth, with_causes=False), with_spans)
             if with_spans:
-                _spans.place(tree, data.decode())
+                _spans.place(tree, data.decode(), element_spans)
             return tree
     except RecursionError:
         raise TooDeep("the text nests more deeply than Python's recursion takes") from None
@@ -70,7 +71,7 @@ def _serialized(resource: ast.Resource, strict: bool, alone: Optional[str]) -> s
 def _is_read_back(resource: ast.Resource, text: str) -> bool:
     """Whether the text is read as the very tree, apart from junk. Most trees are; for others it is asked what differs."""
     with no_collection():
-        read, _ = _reading.resource(text.encode(), NESTING, False)
+        read, _ = _reading.resource(text.encode(), NESTING, False, False)
         return read.body == [it for it in resource.body if not isinstance(it, ast.Junk)]
 
 
@@ -159,10 +160,11 @@ def compare(reference: Text, other: Text, *, edition: int = 1, nesting: int = NE
     return _findings.between(one, two, as_edition(edition), _library.as_nesting(nesting))
 
 
-def parse_file(path: Path, *, nesting: int = NESTING, with_spans: bool = True) -> ast.Resource:
+def parse_file(path: Path, *, nesting: int = NESTING, with_spans: bool = True,
+               element_spans: bool = False) -> ast.Resource:
     """The tree of a file. Beside what `parse` raises, `OSError`; what is wrong with the text tells the file too."""
     with _File(path) as data:
-        return parse(data, nesting=nesting, with_spans=with_spans)
+        return parse(data, nesting=nesting, with_spans=with_spans, element_spans=element_spans)
 
 
 def check_file(path: Path, *, edition: int = 1, nesting: int = NESTING) -> List[Error]:

@@ -4,8 +4,8 @@ A row comes before those of the nodes that it holds. So the rows are taken from 
 is made when its own row comes, and no node is made twice or looked for.
 """
 from itertools import accumulate
-from operator import add, sub
-from typing import Any, Callable, Dict, List, Optional, Tuple
+from operator import sub
+from typing import Any, Callable, Dict, List, Optional, Set, Tuple
 
 from . import _library, ast
 from ._library import Nodes
@@ -16,25 +16,33 @@ from .ast import Identifier, Span
  _VARIABLE, _FUNCTION, _ARGUMENTS, _NAMED) = range(1, 25)
 
 
-def resource(data: bytes, nesting: int, with_spans: bool) -> Tuple[ast.Resource, bool]:
-    """The tree of a text by edition one, and whether the text has errors. With spans names, texts, literals, comments and
-    junk have theirs, and patterns and placeables one to be set."""
+# what has a span before it is looked for in the text
+_PLACED = {_MESSAGE, _TERM, _JUNK, _LINE, _ATTRIBUTE}
+_ELEMENTS = _PLACED | {_TEXT, _IDENTIFIER, _STRING, _NUMBER, _MESSAGE_REFERENCE, _TERM_REFERENCE, _VARIABLE, _FUNCTION, _NAMED}
+
+
+def resource(data: bytes, nesting: int, with_spans: bool, with_elements: bool) -> Tuple[ast.Resource, bool]:
+    """The tree of a text by edition one, and whether the text has errors. With spans the names of entries and attributes,
+    comments and junk have theirs; with elements also names, texts and literals in values."""
     nodes, has_errors = _library.nodes(data, 1, nesting)
     if data.isascii():
         text = data.decode()
         texts = [text[start:end] for start, end in zip(nodes.starts, nodes.ends)]
     else:
         texts = [data[start:end].decode() for start, end in zip(nodes.starts, nodes.ends)]
-    spans = _spans(nodes, texts) if with_spans else [None] * len(texts)
+    spans: List[Optional[Span]] = [None] * len(texts)
+    if with_spans:
+        spans = _spans(nodes, texts, _ELEMENTS if with_elements else _PLACED)
     return ast.Resource(_body(nodes, texts, spans)), has_errors
 
 
-def _spans(nodes: Nodes, texts: List[str]) -> List[Optional[Span]]:
+def _spans(nodes: Nodes, texts: List[str], placed: Set[int]) -> List[Optional[Span]]:
     """The places in characters. The texts ascend, and no other character of the whole text is beyond ASCII."""
     lengths = [*map(len, texts)]
     beyond = accumulate(map(sub, map(sub, nodes.ends, nodes.starts), lengths), initial=0)
     starts = [*map(sub, nodes.starts, beyond)]
-    return [*map(Span, starts, map(add, starts, lengths))]
+    return [Span(start, start + length) if kind in placed else None
+            for kind, start, length in zip(nodes.kinds, starts, lengths)]
 
 
 def _body(nodes: Nodes, texts: List[str], spans: List[Optional[Span]]) -> List[ast.AnyEntry]:
@@ -44,7 +52,7 @@ def _body(nodes: Nodes, texts: List[str], spans: List[Optional[Span]]) -> List[a
         if kind == _TEXT:
             push(ast.TextElement(text, span))
         elif kind == _PATTERN:
-            push(ast.Pattern([pop()] if held == 1 else _taken(made, held), span))
+            push(ast.Pattern([pop()] if held == 1 else _taken(made, held)))
         elif kind == _MESSAGE:
             parts = [pop()] if held == 1 else _taken(made, held)
             value = parts.pop(0) if type(parts[0]) is ast.Pattern else None
@@ -52,7 +60,7 @@ def _body(nodes: Nodes, texts: List[str], spans: List[Optional[Span]]) -> List[a
         elif kind == _ATTRIBUTE:
             push(ast.Attribute(Identifier(text, span), pop()))
         elif kind == _PLACEABLE:
-            push(ast.Placeable(pop(), span))
+            push(ast.Placeable(pop()))
         elif kind == _VARIABLE:
             push(ast.VariableReference(Identifier(text, span)))
         elif kind == _OWN_COMMENT:

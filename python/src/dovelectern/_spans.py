@@ -2,61 +2,64 @@
 
 Between these there are only signs and blanks, so that a sign is the next one of its kind.
 """
-import re
 from typing import Any, Callable, Dict, Tuple
 
 from . import ast
 from .ast import Span
 
-# what comes after the elements of a value: CRs that end no line, which are in it, and the line end and blank lines
-_REST = re.compile(r"((?: *\r(?!\n))*)(?: *\r?\n)*(?: *\Z)?")
 Place = Tuple[int, int]
 
 
-def place(tree: ast.Resource, text: str) -> None:
-    """Sets the span of each node that has none."""
-    for entry in tree.body:
+def place(tree: ast.Resource, text: str, with_elements: bool) -> None:
+    """Sets the span of each entry, attribute and value, and perhaps of what is in values."""
+    end = len(text)
+    for entry in reversed(tree.body):
         if isinstance(entry, ast.Message) or isinstance(entry, ast.Term):
-            _place_entry(entry, text)
-        elif isinstance(entry, ast.BaseComment):
-            _place_comment(entry, text)
+            end = _place_entry(entry, text, end, with_elements)
+        elif isinstance(entry, ast.Junk):
+            end = entry.span.start if entry.span else end
+        else:
+            end = _place_comment(entry, text)
 
 
-def _place_comment(comment: ast.BaseComment, text: str) -> None:
-    """From its first sign: a comment begins a line. One without a line is a sign at the end of the text."""
+def _place_comment(comment: ast.BaseComment, text: str) -> int:
+    """Gives where its line begins. A comment without lines is a sign at the end of the text."""
     if comment.span is None:
         comment.span = Span(len(text), len(text))
     comment.span.start = text.rfind("\n", 0, comment.span.start) + 1
+    return comment.span.start
 
 
-def _place_entry(entry: Any, text: str) -> None:
-    start, end = entry.id.span.start, entry.id.span.end
-    if type(entry) is ast.Term:
-        start -= 1
-    if entry.comment is not None:
-        _place_comment(entry.comment, text)
-        start = entry.comment.span.start
-    if entry.value is not None:
-        end = _place_value(entry.value, text, end)
-    for attribute in entry.attributes:
+def _place_entry(entry: Any, text: str, end: int, with_elements: bool) -> int:
+    """Gives where it begins. Its blank lines end there."""
+    last = last_end = _end_of(text, end)
+    for attribute in reversed(entry.attributes):
         name = attribute.id.span
-        end = _place_value(attribute.value, text, name.end)
-        attribute.span = Span(name.start - 1, end)
-    entry.span = Span(start, end)
+        _place_value(attribute.value, text, name.end, end, with_elements)
+        attribute.span = Span(name.start - 1, last)
+        end = text.rfind("\n", 0, name.start) + 1
+        last = _end_of(text, end)
+    name = entry.id.span
+    if entry.value is not None:
+        _place_value(entry.value, text, name.end, end, with_elements)
+    start: int = name.start - (type(entry) is ast.Term)
+    if entry.comment is not None:
+        start = _place_comment(entry.comment, text)
+    entry.span = Span(start, last_end)
+    return start
 
 
-def _place_value(value: Any, text: str, name_end: int) -> int:
-    """Gives where it ends without its line end."""
-    end = _place_elements(value.elements, text)
-    span = value.span
-    span.start = text.index("=", name_end) + 1
-    if text[end:end + 1] == "\n" and text[end + 1:end + 2] > " ":
-        span.end = end + 1
-        return end
-    rest: Any = _REST.match(text, end)
-    span.end = rest.end()
-    last: int = rest.end(1)
-    return last
+def _end_of(text: str, end: int) -> int:
+    """Where what ends there with its line end and blank lines ends without them. A CR by itself is no line end."""
+    while text[end - 1] in " \n":
+        end -= 2 if text.endswith("\r\n", 0, end) else 1
+    return end
+
+
+def _place_value(value: Any, text: str, name_end: int, end: int, with_elements: bool) -> None:
+    value.span = Span(text.index("=", name_end) + 1, end)
+    if with_elements:
+        _place_elements(value.elements, text)
 
 
 def _place_elements(elements: Any, text: str) -> int:
@@ -69,9 +72,8 @@ def _place_elements(elements: Any, text: str) -> int:
 
 def _place_placeable(node: Any, text: str) -> Place:
     start, end = _placed(node.expression, text)
-    span = node.span
-    span.start, span.end = text.rindex("{", 0, start), text.index("}", end) + 1
-    return span.start, span.end
+    node.span = Span(text.rindex("{", 0, start), text.index("}", end) + 1)
+    return node.span.start, node.span.end
 
 
 def _placed(node: Any, text: str) -> Place:
@@ -134,7 +136,7 @@ def _variant(node: Any, text: str) -> Place:
     """From the `[`, or the `*` before it."""
     start = text.rindex("[", 0, node.key.span.start) - node.default
     end = _place_elements(node.value.elements, text)
-    node.value.span.start, node.value.span.end = node.value.elements[0].span.start, end
+    node.value.span = Span(node.value.elements[0].span.start, end)
     return start, end
 
 
