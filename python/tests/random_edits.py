@@ -1,10 +1,10 @@
 """Random edits of random texts, looked over by a reader in Python alone: random_edits.py [EDITS [SEED]]
 
-The texts are those with known answers, and texts of entries out of these, some with a letter changed. Each edit is asked
-of the package, and so of the library for C. Where it is made, the new text may differ from the old one in the stretch of
-that entry alone, and benchmarks/plain_reader.py has to read it as the old tree with the edit made; where it is refused,
-the reason has to be the right one. An edit that would be read otherwise is only counted. It prints what it saw; the
-status is 1 where something was wrong.
+The texts are those with known answers, and texts of entries out of these, some with a letter changed. Each edit is
+asked of the package, and so of the library for C. Where it is made, the new text may differ from the old one in the
+stretch of that entry alone, and benchmarks/plain_reader.py has to read it as the old tree with the edit made; where it
+is refused, the reason has to be the right one. An edit that would be read otherwise is only counted. It prints what it
+saw; the status is 1 where something was wrong.
 """
 import collections
 import pathlib
@@ -19,10 +19,10 @@ import plain_reader
 from dovelectern import ast
 from texts import all_texts
 
-VALUES = [" New", "{ $new }", "\n    one\n    two\n", " a { b.c } d", "{ $n ->\n  [one] x\n *[other] { -t(a: \"b\") }\n}", "",
-          " a\r\n b", "{", " x\ny = z", ' { "\\u00e9" } é', "  [x]", " .a = b", " x\n .a = b"]
-ENTRIES = ["new = N", "-new = N\n", "# c\nnew = N\n .a = A\n", "# c", "## g\n", "### r", "bro ken", "a = b\nc = d", "", "#",
-           "new =\r\n    .x = y\r\n", "new = { $a ->\n *[b] c\n}\n\n"]
+VALUES = [" New", "{ $new }", "\n    one\n    two\n", " a { b.c } d",
+          "{ $n ->\n  [one] x\n *[other] { -t(a: \"b\") }\n}", "", " a\r\n b", "{", " x\ny = z", ' { "\\u00e9" } é', "  [x]", " .a = b", " x\n .a = b"]
+ENTRIES = ["new = N", "-new = N\n", "# c\nnew = N\n .a = A\n", "# c", "## g\n", "### r", "bro ken", "a = b\nc = d",
+           "", "#", "new =\r\n    .x = y\r\n", "new = { $a ->\n *[b] c\n}\n\n"]
 REFUSALS = (dovelectern.NoValue, dovelectern.NotFound, dovelectern.PartHasErrors, dovelectern.NotOneEntry,
             dovelectern.ReadsOtherwise)
 
@@ -32,8 +32,8 @@ BLANK_LINES = re.compile(r"(?: *\n)*(?: *\Z)?")
 
 
 class Found(NamedTuple):
-    """An entry, and its stretch in the text with LFs for CRLFs, with the blank lines behind it: from the comment that is
-    attached to it, and from its name."""
+    """An entry, and its stretch in the text with LFs for CRLFs, with the blank lines behind it: from the comment that
+    is attached to it, and from its name."""
 
     node: Any
     first: int
@@ -112,7 +112,8 @@ def random_edit(text: str, found: List[Found], some: random.Random) -> Edit:
     if what == "set_attribute":
         own = [a.id.name for it in found if name_of(it.node) == name for a in it.node.attributes]
         attribute = some.choice(own or ["a"])
-        return Edit(what, lambda: dovelectern.set_attribute(text, name, attribute, value), only_value(value), name, attribute)
+        return Edit(what, lambda: dovelectern.set_attribute(text, name, attribute, value), only_value(value), name,
+                    attribute)
     if what == "replace":
         return Edit(what, lambda: dovelectern.replace(text, name, entry), only(entry), name)
     if what == "insert":
@@ -151,7 +152,7 @@ def wanted(edit: Edit, found: List[Found]) -> Any:
 
 
 def is_kept(text: str, new: str, start: Optional[int], end: Optional[int]) -> bool:
-    """Whether all before the stretch and all after it is as it was; the places are those of the text without CRs of CRLFs."""
+    """Whether all before the stretch and all after it is as it was; places are those of the text with LFs for CRLFs."""
     places = [it.start() for it in re.finditer(r"\r\n|[\s\S]", text)] + [len(text)]
     before = text if start is None else text[:places[start]]
     after = "" if end is None else text[places[end]:]

@@ -5,9 +5,10 @@ ghost use Rattle.fluent_syntax_tree.specs.View.{attribute_view, comment_view, en
 ghost use Rattle.fluent_syntax_tree.specs.View.{resource_view, term_view};
 ghost use Rattle.fluent_syntax_names.specs.Growing.{Adds};
 ghost use Rattle.fluent_syntax_c.specs.Depth.{EditionReadsDeeper};
-ghost use Rattle.fluent_syntax_c.specs.Nodes.{are_nodes, attribute_nodes, attributes_nodes, body_nodes, comment_nodes};
-ghost use Rattle.fluent_syntax_c.specs.Nodes.{entry_nodes, line_nodes, lines_nodes, message_nodes, node_number, node_row};
-ghost use Rattle.fluent_syntax_c.specs.Nodes.{no_text, option_count, own_comment_nodes, term_nodes, value_nodes};
+ghost use Rattle.fluent_syntax_c.specs.Nodes.{are_nodes, attribute_nodes, attributes_nodes, body_nodes};
+ghost use Rattle.fluent_syntax_c.specs.Nodes.{comment_nodes, entry_nodes, line_nodes, lines_nodes, message_nodes};
+ghost use Rattle.fluent_syntax_c.specs.Nodes.{no_text, node_number, node_row, option_count, own_comment_nodes};
+ghost use Rattle.fluent_syntax_c.specs.Nodes.{term_nodes, value_nodes};
 ghost use Rattle.fluent_syntax_c.specs.Rows.{AreRows, Gives};
 
 use crate::pattern_nodes::add_pattern;

@@ -1,8 +1,7 @@
 """What the package does."""
 import os
 from functools import lru_cache
-from itertools import chain
-from typing import Callable, Dict, Iterable, Iterator, List, Optional, Tuple, TypeVar, Union
+from typing import Callable, Dict, Iterable, List, Optional, Tuple, TypeVar, Union
 
 from . import _findings, _library, _places, _reading, _reading_back, _spans, _writing, ast
 from ._collection import no_collection
@@ -19,7 +18,8 @@ def parse(text: Text, *, nesting: int = NESTING, with_spans: bool = True,
           element_spans: bool = False) -> ast.Resource:
     """The tree of a text, by edition one of the grammar. What was refused is a `Junk`, with its error as annotation.
 
-    `TooDeep`: placeables and argument lists nest more than `nesting` deep, or more than Python's recursion takes.
+    `TooDeep`: placeables and argument lists nest more than `nesting` deep, or, where elements are to have spans, more
+    than Python's recursion takes.
     `UnicodeDecodeError`: bytes that are not UTF-8. `UnicodeEncodeError`: a str with a surrogate. `TypeError`: no text.
     Without `with_spans` no node has a span; with `element_spans` each node within a value has one too.
     """

@@ -15,15 +15,18 @@ from .ast import Identifier, Span
  _PLACEABLE, _SELECT, _VARIANT, _DEFAULT_VARIANT, _IDENTIFIER, _STRING, _NUMBER, _MESSAGE_REFERENCE, _TERM_REFERENCE,
  _VARIABLE, _FUNCTION, _ARGUMENTS, _NAMED) = range(1, 25)
 
-
 # what has a span before it is looked for in the text
 _PLACED = {_MESSAGE, _TERM, _JUNK, _LINE, _ATTRIBUTE}
-_ELEMENTS = _PLACED | {_TEXT, _IDENTIFIER, _STRING, _NUMBER, _MESSAGE_REFERENCE, _TERM_REFERENCE, _VARIABLE, _FUNCTION, _NAMED}
+_ELEMENTS = _PLACED | {_TEXT, _IDENTIFIER, _STRING, _NUMBER, _MESSAGE_REFERENCE, _TERM_REFERENCE, _VARIABLE, _FUNCTION,
+                       _NAMED}
 
 
 def resource(data: bytes, nesting: int, with_spans: bool, with_elements: bool) -> Tuple[ast.Resource, bool]:
-    """The tree of a text by edition one, and whether the text has errors. With spans the names of entries and attributes,
-    comments and junk have theirs; with elements also names, texts and literals in values."""
+    """The tree of a text by edition one, and whether the text has errors.
+
+    With spans the names of entries and attributes, comments and junk have theirs; with elements also names, texts and
+    literals in values.
+    """
     nodes, has_errors = _library.nodes(data, 1, nesting)
     if data.isascii():
         text = data.decode()

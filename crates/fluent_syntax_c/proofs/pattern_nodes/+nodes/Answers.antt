@@ -16,7 +16,8 @@ use Rattle.fluent_syntax_tree.proofs.Views.{view-CallArguments}
 use Rattle.fluent_syntax_names.specs.Growing.{Adds}
 use Rattle.fluent_syntax_names.proofs.Adding.{adding_on_ok_adds_both, adding_twice_adds_both, leaves_next, leaves_none}
 use Rattle.fluent_syntax_c.specs.Nodes.{element_nodes, elements_count, elements_nodes, inline_nodes, inlines_count}
-use Rattle.fluent_syntax_c.specs.Nodes.{inlines_nodes, maybe_count, maybe_nodes, named_nodes, nameds_count, nameds_nodes}
+use Rattle.fluent_syntax_c.specs.Nodes.{inlines_nodes, maybe_count, maybe_nodes, named_nodes}
+use Rattle.fluent_syntax_c.specs.Nodes.{nameds_count, nameds_nodes}
 use Rattle.fluent_syntax_c.specs.Nodes.{no_text, node_row, option_count, variant_nodes, variants_count, variants_nodes}
 use Rattle.fluent_syntax_c.specs.declared.nodes.NodeKind.TheVariants as kind
 use Rattle.fluent_syntax_c.proofs.NodeRows.{elements_are_counted, inlines_are_counted, nameds_are_counted}
@@ -171,7 +172,8 @@ add_named_argument-returns t c =
 
 pub add_elements-loop-element-preserved : goal.add_elements-loop-element-preserved
 add_elements-loop-element-preserved t c =
-    let all = λ (nodes : List (PatternElement Span)). elements_nodes (elements_of (map (element_view (λ s. s)) nodes)) in
+    let all = λ (nodes : List (PatternElement Span)).
+    elements_nodes (elements_of (map (element_view (λ s. s)) nodes)) in
     let one = λ (x : PatternElement Span). element_nodes (element_view (λ s. s) x) in
     record {
       left = leaves_next all one c.args.rows.now.items c.loop-element.rows.items c.args.elements.now
@@ -181,7 +183,8 @@ add_elements-loop-element-preserved t c =
 
 pub add_elements-returns : goal.add_elements-returns
 add_elements-returns t c =
-    let all = λ (nodes : List (PatternElement Span)). elements_nodes (elements_of (map (element_view (λ s. s)) nodes)) in
+    let all = λ (nodes : List (PatternElement Span)).
+    elements_nodes (elements_of (map (element_view (λ s. s)) nodes)) in
     let one = λ (x : PatternElement Span). element_nodes (element_view (λ s. s) x) in
     leaves_none all one c.args.rows.now.items c.loop-element.rows.items c.args.elements.now c.loop-element.element-index
     (λ tail. refl) c.loop-element-test.false c.loop-element.invariant.left

@@ -12,7 +12,8 @@ use Rattle.fluent_syntax_c.proofs.pattern_nodes.+nodes.Given as goal
 
 abbrev pub invariant-add_elements-loop-element : goal.invariant-add_elements-loop-element
 invariant-add_elements-loop-element l =
-    let all = λ (nodes : List (PatternElement Span)). elements_nodes (elements_of (map (element_view (λ s. s)) nodes)) in
+    let all = λ (nodes : List (PatternElement Span)).
+    elements_nodes (elements_of (map (element_view (λ s. s)) nodes)) in
     record { left : Leaves l.fn.rows.items l.rows.items (all (drop l.element-index l.elements)) (all l.elements) }
 
 abbrev pub invariant-add_inlines-loop-inline : goal.invariant-add_inlines-loop-inline
