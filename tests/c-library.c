@@ -11,9 +11,9 @@
 #include <string.h>
 #include <sys/mman.h>
 
-enum { ROOM = 1 << 22, PAGE = 4096, MARK = 0xA5, CALLS = 28, ERRORS = 6, CAUSES = 8, NAMES = 10, VALUES = 12 };
-enum { MESSAGES = 14, CAUSE_MESSAGES = 16, FINDINGS = 18, COMPARISON = 20, SET_VALUE = 22, REPLACE = 23, INSERT = 24 };
-enum { REMOVE = 25, SET_ATTRIBUTE = 26, FROM_JSON = 27 };
+enum { ROOM = 1 << 22, PAGE = 4096, MARK = 0xA5, CALLS = 30, ERRORS = 6, CAUSES = 8, NAMES = 10, VALUES = 12 };
+enum { NODES = 14, MESSAGES = 16, CAUSE_MESSAGES = 18, FINDINGS = 20, COMPARISON = 22, SET_VALUE = 24, REPLACE = 25 };
+enum { INSERT = 26, REMOVE = 27, SET_ATTRIBUTE = 28, FROM_JSON = 29 };
 
 /* ---- memory */
 
@@ -100,7 +100,8 @@ static size_t size_of(int call)
     return call < CAUSES     ? sizeof(struct ftl_error)
            : call < NAMES    ? sizeof(struct ftl_cause)
            : call < VALUES   ? sizeof(struct ftl_name)
-           : call < MESSAGES ? sizeof(struct ftl_value)
+           : call < NODES    ? sizeof(struct ftl_value)
+           : call < MESSAGES ? sizeof(struct ftl_node)
                              : sizeof(struct ftl_finding);
 }
 
@@ -137,8 +138,10 @@ static uint32_t made(int call, size_t nesting, const uint8_t *text, size_t text_
         return ftl_causes(edition, nesting, text, text_len, array, room, count);
     if (call < VALUES)
         return ftl_names(edition, nesting, text, text_len, array, room, count);
-    if (call < MESSAGES)
+    if (call < NODES)
         return ftl_values(edition, nesting, text, text_len, array, room, count);
+    if (call < MESSAGES)
+        return ftl_nodes(edition, nesting, text, text_len, array, room, count);
     if (call < CAUSE_MESSAGES)
         return ftl_error_messages(edition, nesting, text, text_len, array, room, count);
     if (call < FINDINGS)
@@ -224,6 +227,46 @@ static void values_beside_names(uint32_t edition, const uint8_t *text, size_t te
     }
     free(names);
     free(values);
+}
+
+/* Nodes by the edition: names are those of ftl_names, texts ascend, and each node holds as many as its row says. */
+static void nodes_beside_names(uint32_t edition, const uint8_t *text, size_t text_len)
+{
+    size_t count, names_count, at = 0, name = 0;
+    if (ftl_nodes(edition, FTL_NESTING, text, text_len, NULL, 0, &count) > FTL_TOO_SMALL)
+        return;
+    struct ftl_node *nodes = calloc(count + 1, sizeof *nodes);
+    struct ftl_name *names = calloc(count + 1, sizeof *names);
+    size_t *left = calloc(count + 1, sizeof *left), depth = 0;
+    if (nodes == NULL || names == NULL || left == NULL)
+        exit(2);
+    ftl_nodes(edition, FTL_NESTING, text, text_len, nodes, count, &count);
+    ftl_names(edition, FTL_NESTING, text, text_len, names, count, &names_count);
+    for (size_t i = 0; i < count; i++) {
+        const struct ftl_node *it = &nodes[i];
+        int is_entry = it->kind <= FTL_NODE_OWN_COMMENT, is_bare = it->start == 0 && it->end == 0;
+        if (it->kind < FTL_NODE_MESSAGE || it->kind > FTL_NODE_NAMED_ARGUMENT || is_entry != (depth == 0))
+            fault(NODES, "a node of another kind", text_len, i);
+        if (!is_bare && (it->start < at || it->end < it->start || it->end > text_len))
+            fault(NODES, "a text at another place", text_len, i);
+        at = is_bare ? at : it->end;
+        if (it->kind == FTL_NODE_MESSAGE || it->kind == FTL_NODE_TERM || it->kind == FTL_NODE_ATTRIBUTE) {
+            uint32_t kind = it->kind == FTL_NODE_MESSAGE ? FTL_MESSAGE : it->kind == FTL_NODE_TERM ? FTL_TERM : FTL_ATTRIBUTE;
+            if (name >= names_count || names[name].start != it->start || names[name].end != it->end ||
+                names[name].kind != kind)
+                fault(NODES, "another name", text_len, i);
+            name++;
+        }
+        left[depth++] = it->held;
+        while (depth > 0 && left[depth - 1] == 0)
+            if (--depth > 0)
+                left[depth - 1]--;
+    }
+    if (depth != 0 || name != names_count || count > text_len)
+        fault(NODES, "another number of nodes", text_len, count);
+    free(nodes);
+    free(names);
+    free(left);
 }
 
 /* Causes by the edition: a row and a line for each error. Without a cause the row is 0 and the line empty; with one
@@ -322,12 +365,14 @@ static void odd_calls(void)
         struct ftl_cause cause;
         struct ftl_name name;
         struct ftl_value value;
+        struct ftl_node node;
         struct ftl_finding finding;
         struct ftl_text none = {bad, sizeof bad};
         memset(&error, MARK, sizeof error);
         memset(&cause, MARK, sizeof cause);
         memset(&name, MARK, sizeof name);
         memset(&value, MARK, sizeof value);
+        memset(&node, MARK, sizeof node);
         memset(&finding, MARK, sizeof finding);
         count = 99;
         if (ftl_answer(wrong[i], FTL_NESTING, bad, 3, out, 4, &count) != FTL_WRONG_ARGUMENT || count != 0 ||
@@ -349,6 +394,10 @@ static void odd_calls(void)
         if (ftl_values(wrong[i], FTL_NESTING, bad, 3, &value, 1, &count) != FTL_WRONG_ARGUMENT || count != 0 ||
             *(uint8_t *)&value != MARK)
             fault(VALUES, "no edition has that number", 3, wrong[i]);
+        count = 99;
+        if (ftl_nodes(wrong[i], FTL_NESTING, bad, 3, &node, 1, &count) != FTL_WRONG_ARGUMENT || count != 0 ||
+            *(uint8_t *)&node != MARK)
+            fault(NODES, "no edition has that number", 3, wrong[i]);
         count = 99;
         if (ftl_findings(wrong[i], FTL_NESTING, &none, 1, &finding, 1, &count) != FTL_WRONG_ARGUMENT || count != 0 ||
             *(uint8_t *)&finding != MARK)
@@ -665,6 +714,7 @@ int main(int argc, char **argv)
             call_over(call, text_end - len, len);
         for (uint32_t edition = FTL_EDITION_ONE; edition <= FTL_EDITION_TWO; edition++) {
             values_beside_names(edition, text_end - len, len);
+            nodes_beside_names(edition, text_end - len, len);
             causes_beside_errors(edition, text_end - len, len);
         }
         uint32_t status = ftl_answer(FTL_JSON, FTL_NESTING, text_end - len, len, json, ROOM, &len);

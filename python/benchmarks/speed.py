@@ -45,8 +45,10 @@ def main() -> None:
         ("format", lambda: dovelectern.format(text, drop_junk=True)),
         ("parse", lambda: dovelectern.parse(text)),
         ("parse without spans", lambda: dovelectern.parse(text, with_spans=False)),
+        ("parse with spans of elements", lambda: dovelectern.parse(text, element_spans=True)),
         ("parse of each file", lambda: [dovelectern.parse(it) for it in texts]),
         ("serialize", lambda: dovelectern.serialize(tree)),
+        ("serialize as it is", lambda: dovelectern.serialize(tree, strict=False)),
         ("the peer's parse", lambda: plain_reader.parse(text)),
         ("the peer's parse of each file", lambda: [plain_reader.parse(it) for it in texts]),
     ):

@@ -180,7 +180,7 @@ class Told(unittest.TestCase):
 class Spans(unittest.TestCase):
     def test_values(self) -> None:
         text = "# ü\nkey = Tür { $x ->\n   *[a] ä\n }\n\n  .title =\n    T\nnone =\n    .a = 😀\n-t=x"
-        key, none, term = dovelectern.parse(text).body
+        key, none, term = dovelectern.parse(text, element_spans=True).body
         assert isinstance(key, ast.Message) and isinstance(none, ast.Message) and isinstance(term, ast.Term)
         self.assertIsNone(none.value)
         values = [key.value, key.attributes[0].value, none.attributes[0].value, term.value]
@@ -189,10 +189,32 @@ class Spans(unittest.TestCase):
         assert key.value and isinstance(key.value.elements[1], ast.Placeable)
         select = key.value.elements[1].expression
         assert isinstance(select, ast.SelectExpression)
-        self.assertIsNone(select.variants[0].value.span)
+        self.assertEqual([text[it.span.start:it.span.end] for it in (
+            key.value.elements[1], select, select.selector, select.variants[0], select.variants[0].value,
+            key.attributes[0]) if it.span],
+            ["{ $x ->\n   *[a] ä\n }", "$x ->\n   *[a] ä", "$x", "*[a] ä", "ä", ".title =\n    T"])
+        plain = dovelectern.parse(text).body[0]
+        assert isinstance(plain, ast.Message) and plain.value and plain.value.span
+        self.assertEqual((plain.span, plain.value.span, plain.attributes[0].span),
+                         (key.span, key.value.span, key.attributes[0].span))
+        self.assertEqual([it.span for it in plain.value.elements], [None, None])
         bare = dovelectern.parse(text, with_spans=False).body[0]
         assert isinstance(bare, ast.Message) and bare.value
         self.assertIsNone(bare.value.span)
+
+    def test_calls(self) -> None:
+        text = 'a = ü{ -t.b( 1, c : "é" , ) ->\n *[ x ] y\n}{ F() } { m.n }\n'
+        (entry,) = dovelectern.parse(text, element_spans=True).body
+        assert isinstance(entry, ast.Message) and entry.value
+        select, function, _, reference = [it.expression if isinstance(it, ast.Placeable) else it
+                                          for it in entry.value.elements[1:]]
+        assert isinstance(select, ast.SelectExpression)
+        term = select.selector
+        assert isinstance(term, ast.TermReference) and term.arguments
+        found = [term, term.attribute, term.arguments, *term.arguments.positional, *term.arguments.named, function,
+                 reference]
+        self.assertEqual([text[it.span.start:it.span.end] for it in found if it and it.span],
+                         ['-t.b( 1, c : "é" , )', "b", '( 1, c : "é" , )', "1", 'c : "é"', "F()", "m.n"])
 
     def test_entries(self) -> None:
         """Entries without their last line end, and with the comment before them; comments by themselves."""

@@ -42,6 +42,28 @@ def named(tree: ast.Resource) -> "list[Union[ast.Message, ast.Term, ast.Attribut
             for it in [entry, *entry.attributes]]
 
 
+def nodes_in(node: Any) -> "list[Any]":
+    """The nodes that a node or a list has directly; of junk none."""
+    if isinstance(node, ast.Junk):
+        return []
+    held = node if isinstance(node, list) else [getattr(node, name) for name in ast.field_names(node)]
+    return [it for one in held for it in (one if isinstance(one, list) else [one]) if isinstance(it, ast.BaseNode)]
+
+
+def is_spelled(node: Any, there: str) -> bool:
+    """Whether a node may be spelled so."""
+    if isinstance(node, (ast.Identifier, ast.TextElement, ast.NumberLiteral, ast.StringLiteral, ast.VariableReference)):
+        name = node.id.name if isinstance(node, ast.VariableReference) else getattr(node, "name", None) or node.value
+        return there == {ast.StringLiteral: f'"{name}"', ast.VariableReference: f"${name}"}.get(type(node), name)
+    first, last = {
+        ast.Placeable: ("{", "}"), ast.CallArguments: (r"\(", r"\)"), ast.FunctionReference: ("[A-Z]", r"\)"),
+        ast.TermReference: ("-", r"[\w)-]"), ast.MessageReference: (r"[a-zA-Z]", r"[\w-]"),
+        ast.Variant: (r"(\*\[)" if getattr(node, "default", False) else r"\[", ""), ast.Attribute: (r"\.", ""),
+        ast.Comment: ("#", ""), ast.GroupComment: ("##", ""), ast.ResourceComment: ("###", ""),
+    }.get(type(node), ("", ""))
+    return re.match(f"{first}(.*{last})?$" if last else first, there, re.S) is not None
+
+
 def without_junk(tree: ast.Resource) -> ast.Resource:
     return ast.Resource([it for it in tree.body if not isinstance(it, ast.Junk)])
 
@@ -131,6 +153,24 @@ class Texts(unittest.TestCase):
                     self.assertNotRegex(text[span.end:], r"^ *\r?\n")
                     alone = dovelectern.parse("k =" + text[span.start:span.end])
                     self.assertEqual(alone.body, [ast.Message(ast.Identifier("k"), it.value)])
+
+    def test_spans_of_nodes(self) -> None:
+        """Each node is spelled as it should be where its span is, within what holds it; and is read there alone."""
+        for text, _ in TEXTS:
+            with self.subTest(text=text):
+                tree = dovelectern.parse(text, element_spans=True)
+                for node in nodes_in(tree.body):
+                    there = text[node.span.start:node.span.end]
+                    self.assertTrue(is_spelled(node, there), (node, there))
+                    for below in nodes_in(node):
+                        self.assertLessEqual(node.span.start, below.span.start)
+                        if not isinstance(below, ast.Pattern):
+                            # a value has its line end, and a message has none
+                            self.assertLessEqual(below.span.end, node.span.end)
+                    if isinstance(node, ast.Placeable):
+                        alone = dovelectern.parse("k = " + there).body[0]
+                        assert isinstance(alone, ast.Message) and alone.value
+                        self.assertEqual(alone.value.elements, [node])
 
     def test_columns(self) -> None:
         for text, _ in TEXTS:

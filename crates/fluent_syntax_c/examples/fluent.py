@@ -6,6 +6,7 @@
     library.causes(b"key =\n\t.a = b\n")         # [Cause(line=2, column=1, ..)]
     library.names(b"key = value\n    .a = b\n")   # [Name(..), Name(..)]
     library.values(b"key = value\n    .a = b\n")  # [Value(start=5, end=12), Value(start=20, end=23)]
+    library.nodes(b"a = b\n")                     # [Node(start=0, end=1, held=1, kind=1), Node(..), Node(..)]
     library.findings([b"a = { b }\n"])            # [Finding(text=0, line=1, column=7, ..)]
     library.comparison(b"a = A\n", b"b = B\n")    # [Finding(..), Finding(..)]
     library.edited("ftl_set_attribute", b"key =\n    .a = b\n", b"key", b"a", b"c")  # b"key =\n    .a = c\n"
@@ -41,6 +42,7 @@ _ERROR, Error = _record("Error", [*_PLACE, "junk_start", "junk_end"], ["kind"])
 _CAUSE, Cause = _record("Cause", _PLACE, ["kind"])
 _NAME, Name = _record("Name", [*_PLACE, "owner", "entry_start", "entry_end"], ["kind"])
 _VALUE, Value = _record("Value", ["start", "end"], [])
+_NODE, Node = _record("Node", ["start", "end", "held"], ["kind"])
 _FINDING, Finding = _record("Finding", ["text", *_PLACE, "other_text", "other_start", "other_end"],
                             ["kind", "severity"])
 
@@ -60,7 +62,7 @@ class Fluent:
         written = [ctypes.c_void_p, ctypes.c_size_t, ctypes.POINTER(ctypes.c_size_t)]
         for name, arguments in {
             "ftl_answer": [*read, *text], "ftl_errors": [*read, *text], "ftl_names": [*read, *text],
-            "ftl_values": [*read, *text], "ftl_error_messages": [*read, *text],
+            "ftl_values": [*read, *text], "ftl_nodes": [*read, *text], "ftl_error_messages": [*read, *text],
             "ftl_causes": [*read, *text], "ftl_cause_messages": [*read, *text],
             "ftl_findings": [*read, ctypes.POINTER(_TEXT), ctypes.c_size_t],
             "ftl_comparison": [*read, *text, *text], "ftl_kind_name": read[:1], "ftl_finding_kind_name": read[:1],
@@ -140,6 +142,10 @@ class Fluent:
     def values(self, text, edition=1, nesting=NESTING):
         """Where the values of the names of the bytes stand, in the same order; 0 and 0 of a message without one."""
         return self._rows("ftl_values", [edition, nesting, text, len(text)], _VALUE, Value, 64)
+
+    def nodes(self, text, edition=1, nesting=NESTING):
+        """The nodes of the tree of the bytes, each before those that it holds; the kind of each is a number."""
+        return self._rows("ftl_nodes", [edition, nesting, text, len(text)], _NODE, Node, 64)
 
     def findings(self, texts, edition=1, nesting=NESTING):
         """What is found in the texts, each of bytes, which are those of one language; in order."""

@@ -173,6 +173,43 @@ struct ftl_value {
     size_t end;   /* up to end, with the blank lines directly behind it; of a message without a value both are 0 */
 };
 
+/* What a node of a tree is, and what it holds, in order. Since 2.4. */
+enum ftl_node_kind {
+    FTL_NODE_MESSAGE = 1,           /* with its name: its value, if it has one, and its attributes */
+    FTL_NODE_TERM = 2,              /* with its name: its value and its attributes */
+    FTL_NODE_COMMENT = 3,           /* of '#', by itself: its lines */
+    FTL_NODE_GROUP_COMMENT = 4,     /* of '##': its lines */
+    FTL_NODE_RESOURCE_COMMENT = 5,  /* of '###': its lines */
+    FTL_NODE_JUNK = 6,              /* with its text */
+    FTL_NODE_OWN_COMMENT = 7,       /* that of the message or the term which comes next: its lines */
+    FTL_NODE_COMMENT_LINE = 8,      /* with its text */
+    FTL_NODE_ATTRIBUTE = 9,         /* with its name: its value */
+    FTL_NODE_PATTERN = 10,          /* a value: its texts and placeables */
+    FTL_NODE_TEXT = 11,             /* with its text, of one line at most */
+    FTL_NODE_PLACEABLE = 12,        /* an expression, or a select */
+    FTL_NODE_SELECT = 13,           /* the selector, and the variants */
+    FTL_NODE_VARIANT = 14,          /* its key, which is an identifier or a number, and its value */
+    FTL_NODE_DEFAULT_VARIANT = 15,  /* with '*': likewise */
+    FTL_NODE_IDENTIFIER = 16,       /* with its text: a key, or the attribute of a reference */
+    FTL_NODE_STRING_LITERAL = 17,   /* with its text, without the quotes */
+    FTL_NODE_NUMBER_LITERAL = 18,   /* with its text */
+    FTL_NODE_MESSAGE_REFERENCE = 19, /* with its name: the attribute, if it has one */
+    FTL_NODE_TERM_REFERENCE = 20,   /* with its name: the attribute and the arguments, if it has them */
+    FTL_NODE_VARIABLE_REFERENCE = 21, /* with its name */
+    FTL_NODE_FUNCTION_REFERENCE = 22, /* with its name: the arguments */
+    FTL_NODE_CALL_ARGUMENTS = 23,   /* expressions, and then named arguments */
+    FTL_NODE_NAMED_ARGUMENT = 24    /* with its name: an expression */
+};
+
+/* A node of a tree; since 2.4. Directly behind its row come those of the nodes that it holds, each with those of its
+   own. */
+struct ftl_node {
+    size_t start;  /* the bytes of the text that spell its name, without a '-', '.' or '$', or its text: from start */
+    size_t end;    /* up to end; of a node with neither both are 0 */
+    size_t held;   /* how many nodes it holds */
+    uint32_t kind; /* an ftl_node_kind */
+};
+
 /* A text: its bytes, and how many they are. */
 struct ftl_text {
     const void *text;
@@ -246,6 +283,11 @@ uint32_t ftl_names(uint32_t edition, size_t nesting, const void *text, size_t te
    ftl_status. Since 2.3. */
 uint32_t ftl_values(uint32_t edition, size_t nesting, const void *text, size_t text_len,
                     struct ftl_value *rows, size_t rows_len, size_t *count);
+
+/* Writes the tree of the text, a row for each of its nodes: `*count` rows. The entries come in order. `edition` is an
+   ftl_edition. Returns an ftl_status. Since 2.4. */
+uint32_t ftl_nodes(uint32_t edition, size_t nesting, const void *text, size_t text_len,
+                   struct ftl_node *rows, size_t rows_len, size_t *count);
 
 /* Writes the message of each syntax error of the text, in order and each on a line of its own, with what was expected:
    `*needed` bytes of UTF-8. A line end that a message tells of is written as \n or \r. `edition` is an ftl_edition.

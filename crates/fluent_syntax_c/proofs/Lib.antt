@@ -1,5 +1,6 @@
 mod Statuses
 mod NameRows
+mod NodeRows
 mod ValueRows
 mod LineStarts
 mod Recovered

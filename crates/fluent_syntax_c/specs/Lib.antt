@@ -10,6 +10,7 @@ pub mod Columns
 pub mod Errors
 pub mod Names
 pub mod Values
+pub mod Nodes
 pub mod Messages
 pub mod Causes
 pub mod FindingKinds

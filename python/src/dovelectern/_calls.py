@@ -1,8 +1,7 @@
 """What the package does."""
 import os
 from functools import lru_cache
-from itertools import chain
-from typing import Callable, Dict, Iterable, Iterator, List, Optional, Tuple, TypeVar, Union
+from typing import Callable, Dict, Iterable, List, Optional, Tuple, TypeVar, Union
 
 from . import _findings, _library, _places, _reading, _reading_back, _spans, _writing, ast
 from ._collection import no_collection
@@ -15,22 +14,23 @@ Answer = TypeVar("Answer")
 Path = Union[str, "os.PathLike[str]", bytes, "os.PathLike[bytes]"]
 
 
-def parse(text: Text, *, nesting: int = NESTING, with_spans: bool = True) -> ast.Resource:
+def parse(text: Text, *, nesting: int = NESTING, with_spans: bool = True,
+          element_spans: bool = False) -> ast.Resource:
     """The tree of a text, by edition one of the grammar. What was refused is a `Junk`, with its error as annotation.
 
-    `TooDeep`: placeables and argument lists nest more than `nesting` deep, or more than Python's recursion takes.
+    `TooDeep`: placeables and argument lists nest more than `nesting` deep, or, where elements are to have spans, more
+    than Python's recursion takes.
     `UnicodeDecodeError`: bytes that are not UTF-8. `UnicodeEncodeError`: a str with a surrogate. `TypeError`: no text.
-    Without `with_spans` no node has a span.
+    Without `with_spans` no node has a span; with `element_spans` each node within a value has one too.
     """
     data, depth = _library.as_bytes(text), _library.as_nesting(nesting)
-    written, has_errors = _library.answer(_library.JSON, data, depth)
     try:
         with no_collection():
-            tree = _reading.resource(written)
+            tree, has_errors = _reading.resource(data, depth, with_spans, element_spans)
             if has_errors:
                 _annotate(tree, _errors(data, 1, depth, with_causes=False), with_spans)
             if with_spans:
-                _place(tree, data, depth)
+                _spans.place(tree, data.decode(), element_spans)
             return tree
     except RecursionError:
         raise TooDeep("the text nests more deeply than Python's recursion takes") from None
@@ -41,31 +41,6 @@ def _annotate(tree: ast.Resource, errors: List[Error], with_spans: bool) -> None
     junks = (it for it in tree.body if isinstance(it, ast.Junk))
     for junk, error in zip(junks, errors):
         junk.annotations.append(ast.Annotation(error.kind, [], error.message, error.span if with_spans else None))
-        junk.span = error.junk if with_spans else None
-
-
-def _place(tree: ast.Resource, data: bytes, nesting: int) -> None:
-    """Sets the spans of entries and comments, and of the name and the value of each message, term and attribute; the
-    library gives both in the order of the names."""
-    found = [*_library.names(data, 1, nesting), *_library.values(data, 1, nesting)]
-    if not data.isascii():
-        at = _places.in_characters(data, chain(*found))
-        found = [[*map(at.__getitem__, places)] for places in found]
-    names, stretches, values = map(Span, *found[:2]), map(Span, *found[2:4]), map(Span, *found[4:])
-    _spans.place_entries(tree, data.decode(), stretches)
-    for node in _named(tree):
-        node.id.span = next(names)
-        value = next(values)
-        if node.value is not None:
-            node.value.span = value
-
-
-def _named(tree: ast.Resource) -> Iterator[Union[ast.Message, ast.Term, ast.Attribute]]:
-    """The messages, terms and attributes of the tree, in the order of the text."""
-    for entry in tree.body:
-        if isinstance(entry, (ast.Message, ast.Term)):
-            yield entry
-            yield from entry.attributes
 
 
 def serialize(resource: ast.Resource, *, strict: bool = True) -> str:
@@ -82,7 +57,7 @@ def serialize(resource: ast.Resource, *, strict: bool = True) -> str:
 def _serialized(resource: ast.Resource, strict: bool, alone: Optional[str]) -> str:
     """The text of a tree, and what its only entry is called where that is not a part of a tree."""
     written, text = _by_json(resource, lambda written: _library.answer(_library.FROM_JSON, written, NESTING)[0])
-    if strict:
+    if strict and not _is_read_back(resource, text):
         changed = _reading_back.first_changed(written, _library.answer(_library.JSON, text.encode(), NESTING)[0])
         if changed is not None:
             entry = ast.Resource([resource.body[changed]])
@@ -91,6 +66,13 @@ def _serialized(resource: ast.Resource, strict: bool, alone: Optional[str]) -> s
             what = alone or f"body[{changed}]"
             raise ReadsOtherwise(f"{what} would be read otherwise than as it is", broken and broken.rule)
     return text
+
+
+def _is_read_back(resource: ast.Resource, text: str) -> bool:
+    """Whether the text is read as the very tree, apart from junk. Most trees are; for others it is asked what differs."""
+    with no_collection():
+        read, _ = _reading.resource(text.encode(), NESTING, False, False)
+        return read.body == [it for it in resource.body if not isinstance(it, ast.Junk)]
 
 
 def _by_json(resource: ast.Resource, call: Callable[[bytes], Answer]) -> Tuple[str, Answer]:
@@ -178,10 +160,11 @@ def compare(reference: Text, other: Text, *, edition: int = 1, nesting: int = NE
     return _findings.between(one, two, as_edition(edition), _library.as_nesting(nesting))
 
 
-def parse_file(path: Path, *, nesting: int = NESTING, with_spans: bool = True) -> ast.Resource:
+def parse_file(path: Path, *, nesting: int = NESTING, with_spans: bool = True,
+               element_spans: bool = False) -> ast.Resource:
     """The tree of a file. Beside what `parse` raises, `OSError`; what is wrong with the text tells the file too."""
     with _File(path) as data:
-        return parse(data, nesting=nesting, with_spans=with_spans)
+        return parse(data, nesting=nesting, with_spans=with_spans, element_spans=element_spans)
 
 
 def check_file(path: Path, *, edition: int = 1, nesting: int = NESTING) -> List[Error]:

@@ -46,6 +46,16 @@ class CauseRow(NamedTuple):
     kind: int
 
 
+class Nodes(NamedTuple):
+    """Rows of nodes: where the name or the text of each begins and ends, in bytes, how many nodes it holds, and the
+    number of what it is."""
+
+    starts: List[int]
+    ends: List[int]
+    held: List[int]
+    kinds: List[int]
+
+
 class FindingRow(NamedTuple):
     """What is found at a name, and its places, in bytes; its column also in UTF-16 units and in characters."""
 
@@ -63,12 +73,11 @@ class FindingRow(NamedTuple):
     severity: int
 
 
-# struct ftl_error, ftl_cause, ftl_name, ftl_value and ftl_finding: numbers of type size_t, up to two of 32 bits, and
+# struct ftl_error, ftl_cause, ftl_node and ftl_finding: numbers of type size_t, up to two of 32 bits, and
 # what is added for the next row
 ROW = struct.Struct("@8NI0N")
 CAUSE_ROW = struct.Struct("@6NI0N")
-NAME_ROW = struct.Struct("@9NI0N")
-VALUE_ROW = struct.Struct("@2N")
+NODE_ROW = struct.Struct("@3NI0N")
 FINDING_ROW = struct.Struct("@10N2I0N")
 
 
@@ -89,8 +98,8 @@ def _load() -> ctypes.CDLL:
     number, size = ctypes.c_uint32, ctypes.c_size_t
     text, written = [ctypes.c_char_p, size], [ctypes.c_void_p, size, ctypes.POINTER(size)]
     calls: List[Tuple[str, List[Any]]] = [
-        ("ftl_answer", [size, *text]), ("ftl_errors", [size, *text]), ("ftl_names", [size, *text]),
-        ("ftl_values", [size, *text]), ("ftl_error_messages", [size, *text]),
+        ("ftl_answer", [size, *text]), ("ftl_errors", [size, *text]), ("ftl_nodes", [size, *text]),
+        ("ftl_error_messages", [size, *text]),
         ("ftl_causes", [size, *text]), ("ftl_cause_messages", [size, *text]),
         ("ftl_findings", [size, ctypes.POINTER(_Text), size]), ("ftl_comparison", [size, *text, *text]),
         ("ftl_kind_name", []), ("ftl_finding_kind_name", []), ("ftl_status_name", []),
@@ -221,25 +230,14 @@ def _lines(call: str, text: bytes, edition: int, nesting: int) -> List[str]:
     return str(out, "utf-8").split("\n")[:-1]
 
 
-def names(text: bytes, edition: int, nesting: int) -> Tuple[List[int], List[int], List[int], List[int]]:
-    """Where the names of messages, terms and attributes of the text begin, in order, and where they end, in bytes; and
-    the same of the messages and terms themselves."""
-    rows, _ = _items("ftl_names", edition, nesting, [text], NAME_ROW.size, 16 + len(text) // 64)
-    # each row is as wide as so many numbers; its start and its end are the fifth and the sixth, then come its owner and
-    # the start and the end of the entry
-    width = NAME_ROW.size // ctypes.sizeof(ctypes.c_size_t)
-    numbers = rows.cast("N")
-    own = [row for row, owner in enumerate(numbers[6::width]) if row == owner]
-    starts, ends = numbers[7::width], numbers[8::width]
-    return numbers[4::width].tolist(), numbers[5::width].tolist(), [starts[it] for it in own], [ends[it] for it in own]
-
-
-def values(text: bytes, edition: int, nesting: int) -> Tuple[List[int], List[int]]:
-    """Where the values of messages, terms and attributes of the text begin, in the order of their names, and where they
-    end, in bytes; of a message without one both are 0."""
-    rows, _ = _items("ftl_values", edition, nesting, [text], VALUE_ROW.size, 16 + len(text) // 64)
-    numbers = rows.cast("N")
-    return numbers[0::2].tolist(), numbers[1::2].tolist()
+def nodes(text: bytes, edition: int, nesting: int) -> Tuple[Nodes, bool]:
+    """The nodes of the tree of the text, each before those that it holds, and whether the text has errors."""
+    rows, has_errors = _items("ftl_nodes", edition, nesting, [text], NODE_ROW.size, 64 + len(text) // 8)
+    numbers, kinds = rows.cast("N"), rows.cast("I")
+    size = ctypes.sizeof(ctypes.c_size_t)
+    width = NODE_ROW.size // size
+    fields = [numbers[field::width].tolist() for field in range(3)]
+    return Nodes(*fields, kinds[3 * size // 4::NODE_ROW.size // 4].tolist()), has_errors
 
 
 def findings(texts: Sequence[bytes], edition: int, nesting: int) -> List[FindingRow]:

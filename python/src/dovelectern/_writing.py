@@ -198,48 +198,69 @@ def value_of(tree: object) -> Value:
     return {"body": _list(tree.body, "body", _entry)}
 
 
-_LEVEL: Dict[Type[ast.BaseNode], Callable[[Any], Value]] = {
-    ast.Resource: lambda it: {"body": it.body},
-    ast.Message: lambda it: {"type": "Message", "id": it.id, "value": it.value, "attributes": it.attributes,
-                             "comment": it.comment},
-    ast.Term: lambda it: {"type": "Term", "id": it.id, "value": it.value, "attributes": it.attributes,
-                          "comment": it.comment},
-    ast.Comment: lambda it: {"type": "Comment", "content": it.content.split("\n")},
-    ast.GroupComment: lambda it: {"type": "GroupComment", "content": it.content.split("\n")},
-    ast.ResourceComment: lambda it: {"type": "ResourceComment", "content": it.content.split("\n")},
-    ast.Junk: lambda it: {"type": "Junk", "content": it.content},
-    ast.Attribute: lambda it: {"id": it.id, "value": it.value},
-    ast.Identifier: lambda it: {"type": "Identifier", "name": it.name},
-    ast.Pattern: lambda it: {"elements": it.elements},
-    ast.TextElement: lambda it: {"type": "TextElement", "value": it.value},
-    ast.Placeable: lambda it: {"type": "Placeable", "expression": it.expression},
-    ast.SelectExpression: lambda it: {"selector": it.selector, "variants": it.variants},
-    ast.Variant: lambda it: {"type": "Variant", "key": it.key, "value": it.value, "default": it.default},
-    ast.StringLiteral: lambda it: {"type": "StringLiteral", "value": it.value},
-    ast.NumberLiteral: lambda it: {"type": "NumberLiteral", "value": it.value},
-    ast.MessageReference: lambda it: {"type": "MessageReference", "id": it.id, "attribute": it.attribute},
-    ast.TermReference: lambda it: {"type": "TermReference", "id": it.id, "attribute": it.attribute,
-                                   "arguments": it.arguments},
-    ast.VariableReference: lambda it: {"type": "VariableReference", "id": it.id},
-    ast.FunctionReference: lambda it: {"type": "FunctionReference", "id": it.id, "arguments": it.arguments},
-    ast.CallArguments: lambda it: {"type": "CallArguments", "positional": it.positional, "named": it.named},
-    ast.NamedArgument: lambda it: {"type": "NamedArgument", "name": it.name, "value": it.value},
+# the same of each class, as text and with little looked at: what is no tree may give JSON of none, or an error
+_quoted = json.encoder.encode_basestring
+
+
+def _form(node: Any) -> str:
+    return _FORMS[type(node)](node)
+
+
+def _forms(nodes: Any) -> str:
+    return f'[{",".join([_FORMS[type(it)](it) for it in nodes])}]'
+
+
+def _name(name: Any) -> str:
+    return f'{{"name":{_quoted(name.name)}}}' if name is not None else "null"
+
+
+def _content(comment: Any) -> str:
+    return f'"content":[{",".join(map(_quoted, comment.content.split(_LF)))}]}}'
+
+
+def _parts(it: Any) -> str:
+    comment = f"{{{_content(it.comment)}" if it.comment is not None else "null"
+    return (f'"id":{_name(it.id)},"value":{_form(it.value)},"attributes":{_forms(it.attributes)},'
+            f'"comment":{comment}}}')
+
+
+_LF = "\n"
+_FORMS: Dict[type, Callable[[Any], str]] = {
+    type(None): lambda it: "null",
+    ast.Message: lambda it: f'{{"type":"Message",{_parts(it)}',
+    ast.Term: lambda it: f'{{"type":"Term",{_parts(it)}',
+    ast.Comment: lambda it: f'{{"type":"Comment",{_content(it)}',
+    ast.GroupComment: lambda it: f'{{"type":"GroupComment",{_content(it)}',
+    ast.ResourceComment: lambda it: f'{{"type":"ResourceComment",{_content(it)}',
+    ast.Junk: lambda it: f'{{"type":"Junk","content":{_quoted(it.content)}}}',
+    ast.Attribute: lambda it: f'{{"id":{_name(it.id)},"value":{_form(it.value)}}}',
+    ast.Identifier: lambda it: f'{{"type":"Identifier","name":{_quoted(it.name)}}}',
+    ast.Pattern: lambda it: f'{{"elements":{_forms(it.elements)}}}',
+    ast.TextElement: lambda it: f'{{"type":"TextElement","value":{_quoted(it.value)}}}',
+    ast.Placeable: lambda it: f'{{"type":"Placeable","expression":{_form(it.expression)}}}',
+    ast.SelectExpression: lambda it: f'{{"selector":{_form(it.selector)},"variants":{_forms(it.variants)}}}',
+    ast.Variant: lambda it: f'{{"type":"Variant","key":{_form(it.key)},"value":{_form(it.value)},'
+                            f'"default":{json.dumps(it.default)}}}',
+    ast.StringLiteral: lambda it: f'{{"type":"StringLiteral","value":{_quoted(it.value)}}}',
+    ast.NumberLiteral: lambda it: f'{{"type":"NumberLiteral","value":{_quoted(it.value)}}}',
+    ast.MessageReference: lambda it: f'{{"type":"MessageReference","id":{_name(it.id)},'
+                                     f'"attribute":{_name(it.attribute)}}}',
+    ast.TermReference: lambda it: f'{{"type":"TermReference","id":{_name(it.id)},"attribute":{_name(it.attribute)},'
+                                  f'"arguments":{_form(it.arguments)}}}',
+    ast.VariableReference: lambda it: f'{{"type":"VariableReference","id":{_name(it.id)}}}',
+    ast.FunctionReference: lambda it: f'{{"type":"FunctionReference","id":{_name(it.id)},'
+                                      f'"arguments":{_form(it.arguments)}}}',
+    ast.CallArguments: lambda it: f'{{"type":"CallArguments","positional":{_forms(it.positional)},'
+                                  f'"named":{_forms(it.named)}}}',
+    ast.NamedArgument: lambda it: f'{{"type":"NamedArgument","name":{_name(it.name)},"value":{_form(it.value)}}}',
 }
-
-
-def _level(node: Any) -> Value:
-    """The object of a node, whose own nodes are still nodes."""
-    for each in type(node).__mro__:
-        if each in _LEVEL:
-            return _LEVEL[each](node)
-    raise TypeError
 
 
 def json_of(tree: object) -> str:
     """The JSON text of a tree. `TypeError` where it is none; but there the text may be JSON of none, too."""
-    if isinstance(tree, ast.Resource):
+    if type(tree) is ast.Resource:
         try:
-            return json.dumps(tree, default=_level, ensure_ascii=False, check_circular=False)
-        except (AttributeError, TypeError):
+            return f'{{"body":{_forms(tree.body)}}}'
+        except (AttributeError, KeyError, TypeError):
             pass
     return json.dumps(value_of(tree), ensure_ascii=False)

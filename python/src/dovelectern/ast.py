@@ -17,6 +17,7 @@ Node = TypeVar("Node", bound="BaseNode")
 class Span:
     """From `start` up to `end`."""
 
+    __slots__ = ("start", "end")
     start: int
     end: int
 
