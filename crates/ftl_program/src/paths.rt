@@ -13,8 +13,9 @@ use ftl_project::{
     RewriteCounts, SpannedJsonTask, Streams, Tally, answer_files, check_summary, format_summary,
     write_files, write_summary,
 };
-use std::alloc::AllocError;
+use std::alloc::{AllocError, Global};
 use std::io;
+use std::io::Write;
 
 /// What a run met.
 #[derive(Drop)]
@@ -185,17 +186,35 @@ fn run_task<S: Store>(
             let task = PrintTask { command, nesting };
             answer_files(alloc, &task, store, files, tally, &mut streams)
         }
-        (Task::FromJson(conversion), _) => {
-            let task = ConvertTask {
-                with_junk: conversion.with_junk,
-                splits_lines: conversion.splits_lines,
-            };
-            answer_files(alloc, &task, store, files, tally, &mut streams)
-        }
-        (_, None) => {
-            let nesting = reading.nesting;
-            let task = SpannedJsonTask { nesting };
-            answer_files(alloc, &task, store, files, tally, &mut streams)
-        }
+        (_, None) => answer_by_json(
+            alloc,
+            task,
+            reading.nesting,
+            store,
+            files,
+            tally,
+            &mut streams,
+        ),
     }
+}
+
+/// Answers the files by their trees as JSON with places, or the trees as JSON by their texts.
+fn answer_by_json<S: Store, O: Write, E: Write>(
+    alloc: Global,
+    task: Task,
+    nesting: usize,
+    store: &mut S,
+    files: &[String],
+    tally: &mut Tally,
+    streams: &mut Streams<'_, O, E>,
+) -> Result<(), RunFault> {
+    let Task::FromJson(conversion) = task else {
+        let task = SpannedJsonTask { nesting };
+        return answer_files(alloc, &task, store, files, tally, streams);
+    };
+    let task = ConvertTask {
+        with_junk: conversion.with_junk,
+        splits_lines: conversion.splits_lines,
+    };
+    answer_files(alloc, &task, store, files, tally, streams)
 }
