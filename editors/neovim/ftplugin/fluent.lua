@@ -52,7 +52,9 @@ local server = {
 if vim.lsp.start then
   vim.lsp.start(server)
 else
-  -- neovim 0.7: one server for the buffers of a project
+  -- neovim 0.7: one server for the buffers of a project; whole texts, since the NULs of a completed text, sent as
+  -- changes, would leave the server another text than the buffer has
+  server.flags = { allow_incremental_sync = false }
   local clients = vim.g.fluent_clients or vim.empty_dict()
   clients[root] = clients[root] or vim.lsp.start_client(server)
   vim.g.fluent_clients = clients
