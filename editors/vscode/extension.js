@@ -37,7 +37,9 @@ class Client extends LanguageClient {
 exports.activate = ({ subscriptions }) => {
   const command = workspace.getConfiguration("fluent").get("program", "ftl-lsp");
   workspace.textDocuments.forEach(noteProject);
-  client = new Client("ftl", "Fluent", { command }, { documentSelector: [{ language: "fluent" }] });
+  // not the versions of a file that a comparison shows
+  const documentSelector = ["file", "untitled"].map((scheme) => ({ language: "fluent", scheme }));
+  client = new Client("ftl", "Fluent", { command }, { documentSelector });
   const reported = (starting) => starting.catch(({ message }) => {
     window.showErrorMessage(`Fluent: ${command} doesn't start: ${message}. Is it installed, or named in fluent.program?`);
   });
