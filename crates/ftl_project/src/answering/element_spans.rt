@@ -129,7 +129,10 @@ fn put_placeable_spans(
 ) -> Result<Span, AllocError> {
     let start = place_of(text, b'{', from);
     let last = match value.get_mut("expression") {
-        Some(value) => put_expression_spans(alloc, text, expression, value, start)?,
+        Some(value) => {
+            let after = start.saturating_add(1);
+            put_expression_spans(alloc, text, expression, value, after)?
+        }
         None => start,
     };
     let end = place_of(text, b'}', last).saturating_add(1);
