@@ -461,13 +461,13 @@ static void kind_names(void)
         kind_name(ftl_finding_kind_name, kind);
     for (uint32_t kind = FTL_FINDING_MISSING; kind <= FTL_FINDING_UNKNOWN_FUNCTION; kind++)
         kind_name(ftl_finding_kind_name, kind);
-    for (uint32_t status = FTL_CLEAN; status <= FTL_PART_HAS_ERRORS; status++)
+    for (uint32_t status = FTL_CLEAN; status <= FTL_OVERLAP; status++)
         kind_name(ftl_status_name, status);
     for (uint32_t rule = FTL_RULE_JUNK; rule <= FTL_RULE_NO_DEFAULT; rule++)
         kind_name(ftl_status_name, rule);
     if (ftl_version() != FTL_VERSION_NUMBER || FTL_VERSION_NUMBER / 100 != 100 * FTL_VERSION_MAJOR + FTL_VERSION_MINOR)
         fault(CALLS, "another version", 0, ftl_version());
-    static const uint32_t none[] = {FTL_PART_HAS_ERRORS + 1, FTL_RULE_JUNK - 1, FTL_RULE_NO_DEFAULT + 1, 0xFFFFFFFF};
+    static const uint32_t none[] = {FTL_OVERLAP + 1, FTL_RULE_JUNK - 1, FTL_RULE_NO_DEFAULT + 1, 0xFFFFFFFF};
     for (size_t i = 0; i < sizeof none / sizeof none[0]; i++)
         if (ftl_status_name(none[i], want, ROOM, &count) != FTL_WRONG_ARGUMENT || count != 0)
             fault(CALLS, "no status has that number", 0, none[i]);
@@ -534,6 +534,63 @@ static void odd_edits(void)
     ftl_insert(1, 9, "# c", 3, NULL, 0, "a = A\r\n B", 9, want, ROOM, &count);
     if (count != 21 || memcmp(want, "# c\n\na =\n    A\n    B\n", count) != 0)
         fault(INSERT, "another text of an edit", sizeof text, count);
+}
+
+/* Several edits at once: what they make, what they refuse, and each room and each request for memory. */
+static void several_edits(void)
+{
+    static const char text[] = "# c\nkey = K\n    .a = A\n-key = T\nbro ken\nlast = L";
+    static const char wanted[] = "new = N\n# c\nkey = V\n    .a = B\nbro ken\nlast = M\n# d\nend = E\n";
+    static const struct ftl_edit edits[] = {
+        {"key", 3, NULL, 0, "new=N", 5, FTL_EDIT_INSERT},  {"key", 3, NULL, 0, "V", 1, FTL_EDIT_SET_VALUE},
+        {"key", 3, "a", 1, "B", 1, FTL_EDIT_SET_ATTRIBUTE}, {"-key", 4, NULL, 0, NULL, 0, FTL_EDIT_REMOVE},
+        {"last", 4, NULL, 0, "last=M", 6, FTL_EDIT_REPLACE}, {NULL, 0, NULL, 0, "# d\nend=E", 9, FTL_EDIT_INSERT},
+    };
+    size_t count = 99;
+    for (size_t room = 0; room < sizeof wanted; room++) {
+        uint32_t status = ftl_edit_all(1, 9, text, sizeof text - 1, edits, 6, want, room, &count);
+        if (status != (room < sizeof wanted - 1 ? FTL_TOO_SMALL : FTL_SYNTAX_ERRORS) || count != sizeof wanted - 1)
+            fault(CALLS, "another status of several edits", room, status);
+    }
+    if (memcmp(want, wanted, sizeof wanted - 1) != 0)
+        fault(CALLS, "another text of several edits", sizeof text, count);
+    uint32_t end = FTL_NO_MEMORY;
+    for (long number = 0; end == FTL_NO_MEMORY; number++) {
+        left = number;
+        end = ftl_edit_all(1, 9, text, sizeof text - 1, edits, 6, want, ROOM, &count);
+        left = -1;
+        refusals += end == FTL_NO_MEMORY;
+    }
+    if (end != FTL_SYNTAX_ERRORS || live != 0 || memcmp(want, wanted, sizeof wanted - 1) != 0)
+        fault(CALLS, "several edits once memory was refused", sizeof text, end);
+    if (ftl_edit_all(1, 9, text, sizeof text - 1, NULL, 0, want, ROOM, &count) != FTL_SYNTAX_ERRORS ||
+        count != sizeof text - 1 || memcmp(want, text, count) != 0)
+        fault(CALLS, "another text of no edits", sizeof text, count);
+    static const struct {
+        struct ftl_edit first, second;
+        uint32_t status;
+    } refused[] = {
+        {{"key", 3, NULL, 0, "V", 1, FTL_EDIT_SET_VALUE}, {"key", 3, NULL, 0, "W", 1, FTL_EDIT_SET_VALUE}, FTL_OVERLAP},
+        {{"last", 4, NULL, 0, "V", 1, FTL_EDIT_SET_VALUE}, {"key", 3, NULL, 0, NULL, 0, FTL_EDIT_REMOVE}, FTL_OVERLAP},
+        {{"key", 3, NULL, 0, NULL, 0, FTL_EDIT_REMOVE}, {"no", 2, NULL, 0, NULL, 0, FTL_EDIT_REMOVE}, FTL_NOT_FOUND},
+        {{"key", 3, NULL, 0, NULL, 0, FTL_EDIT_REMOVE}, {"key", 3, NULL, 0, "V", 1, 6}, FTL_WRONG_ARGUMENT},
+        {{"key", 3, NULL, 0, "V", 1, 0}, {"\xFF", 1, NULL, 0, NULL, 0, FTL_EDIT_REMOVE}, FTL_WRONG_ARGUMENT},
+        {{"no", 2, NULL, 0, NULL, 0, FTL_EDIT_REMOVE}, {"key", 3, NULL, 0, "\xFF", 1, FTL_EDIT_INSERT}, FTL_NOT_UTF8},
+        {{"key", 3, NULL, 0, "{", 1, FTL_EDIT_SET_VALUE}, {"no", 2, NULL, 0, NULL, 0, FTL_EDIT_REMOVE},
+         FTL_PART_HAS_ERRORS},
+        {{"key", 3, NULL, 0, NULL, 0, FTL_EDIT_REMOVE}, {"-key", 4, "a", 1, "B", 1, FTL_EDIT_SET_ATTRIBUTE},
+         FTL_NO_VALUE},
+        {{"key", 3, NULL, 0, "n=N\nm=M", 7, FTL_EDIT_INSERT}, {"-key", 4, NULL, 0, NULL, 0, FTL_EDIT_REMOVE},
+         FTL_NOT_ONE_ENTRY},
+        {{"key", 3, NULL, 0, NULL, 0, FTL_EDIT_REMOVE}, {NULL, 0, NULL, 0, "#  ", 3, FTL_EDIT_INSERT},
+         FTL_RULE_BLANK_COMMENT_LINE},
+    };
+    for (size_t i = 0; i < sizeof refused / sizeof refused[0]; i++) {
+        struct ftl_edit both[] = {refused[i].first, refused[i].second};
+        uint32_t status = ftl_edit_all(1, 9, text, sizeof text - 1, both, 2, want, ROOM, &count);
+        if (status != refused[i].status || count != 0)
+            fault(CALLS, "another refusal of several edits", i, status);
+    }
 }
 
 /* Whether trees are canonical, and which rule one breaks: JSON of some, and JSON that is none; and each request for
@@ -703,6 +760,7 @@ int main(int argc, char **argv)
     }
     odd_calls();
     odd_edits();
+    several_edits();
     odd_json();
     canonical();
     kind_names();

@@ -179,6 +179,40 @@ def wrong(edit: Edit, text: str, found: List[Found], counted: Counter[str]) -> O
     return None if plain_reader.parse(new).body == body else f"read otherwise: {new!r}"
 
 
+def several_wrong(text: str, found: List[Found], some: random.Random, counted: Counter[str]) -> Optional[str]:
+    """What is wrong with some edits in one call, of as many entries, beside the same made one by one; where one of
+    these is refused nothing is said."""
+    names = list(dict.fromkeys(it for it in map(lambda one: name_of(one.node), found) if it))
+    chosen = some.sample(names, min(len(names), some.randint(1, 4)))
+    edits: List[dovelectern.Edit] = []
+    for name in chosen:
+        value, entry = some.choice(VALUES), some.choice(ENTRIES)
+        edits.append(some.choice([dovelectern.SetValue(name, value), dovelectern.Replace(name, entry),
+                                  dovelectern.Insert(entry, before=name), dovelectern.Remove(name)]))
+    places = {name: number for number, name in reversed(list(enumerate(map(lambda one: name_of(one.node), found))))}
+    one_by_one = text
+    try:
+        for name, edit in sorted(zip(chosen, edits), key=lambda it: -places[it[0]]):
+            if isinstance(edit, dovelectern.SetValue):
+                one_by_one = dovelectern.set_value(one_by_one, name, edit.value)
+            elif isinstance(edit, dovelectern.Replace):
+                one_by_one = dovelectern.replace(one_by_one, name, edit.entry)
+            elif isinstance(edit, dovelectern.Insert):
+                one_by_one = dovelectern.insert(one_by_one, edit.entry, before=name)
+            else:
+                one_by_one = dovelectern.remove(one_by_one, name)
+    except REFUSALS:
+        return None
+    counted["several"] += 1
+    try:
+        new = dovelectern.edit_all(text, edits)
+    except (*REFUSALS, dovelectern.Overlap) as error:
+        return f"{edits} refused together as {error!r}"
+    if plain_reader.parse(new).body == plain_reader.parse(one_by_one).body:
+        return None
+    return f"{edits} make {new!r} together, and {one_by_one!r} one by one"
+
+
 def random_text(texts: List[str], entries: List[str], some: random.Random) -> str:
     text = some.choice(texts) if some.random() < 0.3 else "".join(some.choices(entries, k=some.randint(1, 6)))
     if text and some.random() < 0.2:
@@ -207,6 +241,10 @@ def main(edits: int = 100_000, seed: int = 1) -> int:
             if why is not None:
                 faults += 1
                 print(f"{edit.what} {edit.name} {edit.attribute} {edit.part} of {text!r}: {why}", flush=True)
+        why = several_wrong(text, found, some, counted)
+        if why is not None:
+            faults += 1
+            print(f"of {text!r}: {why}", flush=True)
         if done % 50_000 == 0:
             print(done, dict(counted), flush=True)
     print(f"{done} edits, {faults} faults: {dict(counted)}")

@@ -39,6 +39,36 @@ class Edits(unittest.TestCase):
         self.assertEqual(dovelectern.set_attribute(b"-a = b\n .c=d\n .c=e\n", "-a", "c", "f"),
                          "-a = b\n .c= f\n .c=e\n")
 
+    def test_all(self) -> None:
+        """Edits in any order; entries that are inserted at one place in theirs."""
+        edits = [dovelectern.Insert("new=N"), dovelectern.Remove("-brand"), dovelectern.SetValue("hello", "V"),
+                 dovelectern.SetAttribute("hello", "title", "{$x}"), dovelectern.Replace("last", message("last", "M")),
+                 dovelectern.Insert("# d\nd = D", before="hello"), dovelectern.Insert(message("e", "E"), before="hello")]
+        made = TEXT.replace(" Hi", " V").replace("= T", "= { $x }").replace("-brand = B\n", "").replace("= L", "= M")
+        self.assertEqual(dovelectern.edit_all(TEXT, edits), f"# d\nd = D\ne = E\n{made}new = N\n")
+        self.assertEqual(dovelectern.edit_all(TEXT.encode(), []), TEXT)
+        many = "".join(f"m{number} = {number}\n" for number in range(300))
+        changed = dovelectern.edit_all(many, [dovelectern.SetValue(f"m{number}", "v") for number in range(300)])
+        self.assertEqual(changed, "".join(f"m{number} = v\n" for number in range(300)))
+
+    def test_all_refused(self) -> None:
+        remove, value = dovelectern.Remove("hello"), dovelectern.SetValue("hello", "V")
+        edits: Any
+        for error, edits in (
+            (dovelectern.Overlap, [value, remove]),
+            (dovelectern.Overlap, [remove, dovelectern.Replace("hello", "a = b")]),
+            (dovelectern.NotFound, [remove, dovelectern.Remove("brand")]),
+            (dovelectern.NotFound, [dovelectern.Insert("a = b", before="")]),
+            (dovelectern.NoValue, [remove, dovelectern.SetValue("none", "V")]),
+            (dovelectern.NotOneEntry, [remove, dovelectern.Insert("a = b\nc = d")]),
+            (dovelectern.PartHasErrors, [remove, dovelectern.Insert("a")]),
+            (dovelectern.ReadsOtherwise, [remove, dovelectern.Insert("#  ")]),
+            (dovelectern.TooDeep, [dovelectern.SetValue("hello", "{" * 101)]),
+            (TypeError, [remove, "hello"]),
+        ):
+            with self.subTest(error=error, edits=edits), self.assertRaises(error):
+                dovelectern.edit_all(TEXT, edits)
+
     def test_lines(self) -> None:
         """Line ends are read as LF, and an entry at the end begins a line, also after a comment."""
         lines = ast.Pattern([ast.TextElement("a\n"), ast.TextElement("b")])

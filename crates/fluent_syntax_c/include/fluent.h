@@ -38,7 +38,8 @@ enum ftl_status {
     FTL_NOT_ONE_ENTRY = 9,  /* what is new is not exactly one entry, or one value */
     FTL_READS_OTHERWISE = 10, /* the new text would be read otherwise than as the text with the edit made */
     FTL_NO_VALUE = 11,      /* what has the name has no value, or no such attribute */
-    FTL_PART_HAS_ERRORS = 12 /* what is new has syntax errors */
+    FTL_PART_HAS_ERRORS = 12, /* what is new has syntax errors */
+    FTL_OVERLAP = 13        /* two edits change the same stretch, or they are not in the order of the text */
 };
 
 /* Statuses too, since 2.4: what is new in an edit, or the entry of a tree, would be read otherwise, and this is the first
@@ -356,6 +357,32 @@ uint32_t ftl_insert(uint32_t edition, size_t nesting, const void *text, size_t t
 /* Without the message or the term, its comment and the blank lines behind it. */
 uint32_t ftl_remove(uint32_t edition, size_t nesting, const void *text, size_t text_len,
                     const void *name, size_t name_len, void *out, size_t out_len, size_t *needed);
+
+/* What an edit of several does: what the call of that name does. Since 2.4. */
+enum ftl_edit_kind {
+    FTL_EDIT_SET_VALUE = 1,
+    FTL_EDIT_SET_ATTRIBUTE = 2,
+    FTL_EDIT_REPLACE = 3,
+    FTL_EDIT_INSERT = 4,
+    FTL_EDIT_REMOVE = 5
+};
+
+/* An edit of several. Since 2.4. */
+struct ftl_edit {
+    const void *name; /* of the message or the term, as for the call; with no name FTL_EDIT_INSERT is at the end */
+    size_t name_len;
+    const void *attribute; /* of FTL_EDIT_SET_ATTRIBUTE, the name of the attribute; of all others it is not read */
+    size_t attribute_len;
+    const void *part; /* the value or the entry; of FTL_EDIT_REMOVE none */
+    size_t part_len;
+    uint32_t kind; /* an ftl_edit_kind */
+};
+
+/* With each of the edits, which come in the order of the text, in the time of one: the stretch of each ends where that of
+   the next one begins, or before. Names are those of the text as it is. FTL_WRONG_ARGUMENT also where no kind has the
+   number. */
+uint32_t ftl_edit_all(uint32_t edition, size_t nesting, const void *text, size_t text_len,
+                      const struct ftl_edit *edits, size_t edits_len, void *out, size_t out_len, size_t *needed);
 
 /* Writes 1 to `*canonical` if the tree that the JSON spells, as FTL_JSON writes it, is canonical, and otherwise 0: the
    text that FTL_FROM_JSON writes of a canonical tree is read as that tree. `edition` is an ftl_edition. Returns

@@ -10,3 +10,4 @@ mod Commands
 mod NameIndexes
 mod PartsRead
 mod Tested
+mod PartChanges

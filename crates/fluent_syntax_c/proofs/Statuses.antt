@@ -14,7 +14,7 @@ use Rattle.fluent_syntax_c.specs.declared.status.Refusal.{Refusal}
 use Rattle.fluent_syntax_c.specs.declared.status.Refusal.TheVariants.{Argument, Input, Memory, Depth, Tree}
 use Rattle.fluent_syntax_c.specs.declared.status.EditRefusal.{EditRefusal}
 use Rattle.fluent_syntax_c.specs.declared.status.EditRefusal.TheVariants.{NotFound, NotOneEntry, ReadsOtherwise}
-use Rattle.fluent_syntax_c.specs.declared.status.EditRefusal.TheVariants.{NoValue, PartHasErrors, NotCanonical}
+use Rattle.fluent_syntax_c.specs.declared.status.EditRefusal.TheVariants.{NoValue, PartHasErrors, Overlap, NotCanonical}
 use Rattle.fluent_syntax_c.specs.declared.status.Status.{Status}
 use Rattle.fluent_syntax_c.specs.declared.status.Status.TheVariants.{Clean, SyntaxErrors, TooSmall, Refused, NotEdited}
 use Rattle.fluent_syntax_c.specs.Status.{EndsAs, edit_refusal_number, refusal_number, status_number}
@@ -35,8 +35,8 @@ status_of_number n =
     (cond (n == 3) (Refused Input) (cond (n == 4) (Refused Memory) (cond (n == 5) TooSmall
     (cond (n == 6) (Refused Depth) (cond (n == 7) (Refused Tree) (cond (n == 8) (NotEdited NotFound)
     (cond (n == 9) (NotEdited NotOneEntry) (cond (n == 10) (NotEdited ReadsOtherwise)
-    (cond (n == 11) (NotEdited NoValue) (cond (n == 12) (NotEdited PartHasErrors)
-    (rule_status (find (λ broken. rule_number broken == n) every_rule))))))))))))))
+    (cond (n == 11) (NotEdited NoValue) (cond (n == 12) (NotEdited PartHasErrors) (cond (n == 13) (NotEdited Overlap)
+    (rule_status (find (λ broken. rule_number broken == n) every_rule)))))))))))))))
 
 number_reads_back : (status : Status) → status_of_number (status_number status) ≡ status
 number_reads_back Clean = refl
@@ -52,6 +52,7 @@ number_reads_back (NotEdited NotOneEntry) = refl
 number_reads_back (NotEdited ReadsOtherwise) = refl
 number_reads_back (NotEdited NoValue) = refl
 number_reads_back (NotEdited PartHasErrors) = refl
+number_reads_back (NotEdited Overlap) = refl
 number_reads_back (NotEdited (NotCanonical rule.Junk)) = refl
 number_reads_back (NotEdited (NotCanonical rule.EmptyMessage)) = refl
 number_reads_back (NotEdited (NotCanonical rule.LfInComment)) = refl
@@ -205,6 +206,20 @@ edited_text_is_expected expected (Ok made) is items found same =
     expected_holds_of_answered_items expected (λ given. given.0.items) (λ given. given.1) made is items found same
 edited_text_is_expected expected (Err e) is items found same = absurd same
 
+-- The new text that was answered is left.
+pub new_text_is_left : (expected : List ℕ → Outcome → Type 0)
+    (answer : Result (Result (Vec ℕ Global × Outcome) EditRefusal) Refusal) (before after : List ℕ)
+    (count status : ℕ) → IfOk answer (λ made. IfOk made (λ given. expected given.0.items given.1)) →
+    EndsAs status
+    (LeavesOutput (λ items found. IsOkAnd answer (λ made. IsOkAnd made
+    (λ given. (given.0.items ≡ items) × (given.1 ≡ found)))) before after count) →
+    EndsAs status (LeavesOutput expected before after count)
+new_text_is_left expected answer before after count status made leaves = (
+  leaves.0,
+  leaves.1,
+  LeavesOutput-as _ expected before after count leaves.0 (edited_text_is_expected expected answer made) leaves.2,
+)
+
 -- The new text that was answered is given.
 pub new_text_is_given : (number : ℕ) (expected : List ℕ → Outcome → Type 0) (AreTexts Long Deeper : Type 0)
     (answer : Result (Result (Vec ℕ Global × Outcome) EditRefusal) Refusal) (before after : List ℕ)
@@ -220,11 +235,7 @@ pub new_text_is_given : (number : ℕ) (expected : List ℕ → Outcome → Type
     Gives number expected AreTexts Long Deeper before after count status
 new_text_is_given number expected AreTexts Long Deeper answer before after count status made argument input deep deeper
     shallow read tree leaves refused = record {
-      leaves = (
-        leaves.0,
-        leaves.1,
-        LeavesOutput-as _ expected before after count leaves.0 (edited_text_is_expected expected answer made) leaves.2,
-      );
+      leaves = new_text_is_left expected answer before after count status made leaves;
       argument = iff_is_transitive (refused Argument) argument;
       input = λ known. iff_is_transitive (refused Input) (input known);
       deep = λ stated. deep ((refused Depth).0 stated);

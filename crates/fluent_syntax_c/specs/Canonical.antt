@@ -9,7 +9,7 @@ use Rattle.fluent_syntax_writer.specs.declared.canonical.broken_rules.Uncanonica
 use Rattle.ftl.specs.FromJson.{IsSpelled}
 use Rattle.fluent_syntax_c.specs.Arguments.{edition_number}
 use Rattle.fluent_syntax_c.specs.declared.status.EditRefusal.TheVariants.{NotFound, NotOneEntry, ReadsOtherwise}
-use Rattle.fluent_syntax_c.specs.declared.status.EditRefusal.TheVariants.{NoValue, NotCanonical, PartHasErrors}
+use Rattle.fluent_syntax_c.specs.declared.status.EditRefusal.TheVariants.{NoValue, NotCanonical, Overlap, PartHasErrors}
 use Rattle.fluent_syntax_c.specs.declared.status.Status.{Status}
 use Rattle.fluent_syntax_c.specs.declared.status.Status.TheVariants.{Clean, SyntaxErrors, TooSmall, Refused, NotEdited}
 
@@ -41,6 +41,7 @@ LeavesUncanonical number json stated (NotEdited NotOneEntry) = ⊥
 LeavesUncanonical number json stated (NotEdited ReadsOtherwise) = ⊥
 LeavesUncanonical number json stated (NotEdited NoValue) = ⊥
 LeavesUncanonical number json stated (NotEdited PartHasErrors) = ⊥
+LeavesUncanonical number json stated (NotEdited Overlap) = ⊥
 LeavesUncanonical number json stated (Refused refusal) = stated ≡ 0
 LeavesUncanonical number json stated SyntaxErrors = ⊥
 LeavesUncanonical number json stated TooSmall = ⊥

@@ -28,7 +28,7 @@ use Rattle.fluent_syntax_c.specs.declared.edited.Action.{Action}
 use Rattle.fluent_syntax_c.specs.declared.edited.Action.TheVariants.{SetValue, SetAttribute, Replace, Insert, Remove}
 use Rattle.fluent_syntax_c.specs.declared.status.EditRefusal.{EditRefusal}
 use Rattle.fluent_syntax_c.specs.declared.status.EditRefusal.TheVariants.{NotFound, NotOneEntry, ReadsOtherwise}
-use Rattle.fluent_syntax_c.specs.declared.status.EditRefusal.TheVariants.{NoValue, NotCanonical, PartHasErrors}
+use Rattle.fluent_syntax_c.specs.declared.status.EditRefusal.TheVariants.{NoValue, NotCanonical, Overlap, PartHasErrors}
 use Rattle.fluent_syntax_c.specs.declared.text_trees.TextTree.{TextTree}
 
 -- The source is UTF-8, and it was read: its tree with its texts, and whether it has errors.
@@ -129,6 +129,7 @@ edit_refusal (fault.IsJunk span) = Some NotFound
 edit_refusal fault.NoValue = Some NoValue
 edit_refusal (fault.NotCanonical rule) = Some (NotCanonical rule)
 edit_refusal fault.ReadsOtherwise = Some ReadsOtherwise
+edit_refusal fault.Overlap = Some Overlap
 edit_refusal fault.Memory = None
 
 module _ (number : ℕ) (t name : List ℕ) (action : Action) (part : List ℕ) where

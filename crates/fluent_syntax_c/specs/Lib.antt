@@ -21,3 +21,4 @@ pub mod Edits
 pub mod Canonical
 pub mod Rules
 pub mod StatusNames
+pub mod SeveralEdits

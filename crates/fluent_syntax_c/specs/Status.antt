@@ -5,7 +5,7 @@ use Rattle.fluent_syntax_c.specs.declared.status.Refusal.{Refusal}
 use Rattle.fluent_syntax_c.specs.declared.status.Refusal.TheVariants.{Argument, Input, Memory, Depth, Tree}
 use Rattle.fluent_syntax_c.specs.declared.status.EditRefusal.{EditRefusal}
 use Rattle.fluent_syntax_c.specs.declared.status.EditRefusal.TheVariants.{NotFound, NotOneEntry, ReadsOtherwise}
-use Rattle.fluent_syntax_c.specs.declared.status.EditRefusal.TheVariants.{NoValue, PartHasErrors, NotCanonical}
+use Rattle.fluent_syntax_c.specs.declared.status.EditRefusal.TheVariants.{NoValue, PartHasErrors, Overlap, NotCanonical}
 use Rattle.fluent_syntax_c.specs.declared.status.Status.{Status}
 use Rattle.fluent_syntax_c.specs.declared.status.Status.TheVariants.{Clean, SyntaxErrors, TooSmall, Refused, NotEdited}
 
@@ -22,6 +22,7 @@ edit_refusal_number NotOneEntry = 9
 edit_refusal_number ReadsOtherwise = 10
 edit_refusal_number NoValue = 11
 edit_refusal_number PartHasErrors = 12
+edit_refusal_number Overlap = 13
 edit_refusal_number (NotCanonical rule) = rule_number rule
 
 abbrev pub status_number : Status → ℕ

@@ -8,7 +8,7 @@ abbrev pub first_names : List (List ℕ)
 first_names =
     codes "Clean" ∷ codes "SyntaxErrors" ∷ codes "WrongArgument" ∷ codes "NotUtf8" ∷ codes "NoMemory" ∷
     codes "TooSmall" ∷ codes "TooDeep" ∷ codes "NoTree" ∷ codes "NotFound" ∷ codes "NotOneEntry" ∷
-    codes "ReadsOtherwise" ∷ codes "NoValue" ∷ codes "PartHasErrors" ∷ []
+    codes "ReadsOtherwise" ∷ codes "NoValue" ∷ codes "PartHasErrors" ∷ codes "Overlap" ∷ []
 
 -- the names of the rules of canonical trees, which are statuses from 101 on
 abbrev pub rule_names : List (List ℕ)

@@ -87,7 +87,7 @@ pub(crate) fn place_of(action: Action<'_>, name: &str, tree: &Resource<&str>) ->
 
 /// The number of the first attribute of that name of the entry of that number; where there is none, how many
 /// attributes that entry has.
-fn attribute_number(tree: &Resource<&str>, index: usize, name: &[u8]) -> usize
+pub(crate) fn attribute_number(tree: &Resource<&str>, index: usize, name: &[u8]) -> usize
     ensures { result ≡ attribute_number name.now
         (attributes_at index (map (entry_view (λ text. text.now)) tree.now.body.items)) }
 {
@@ -124,7 +124,7 @@ fn only_entry<'p, 't>(entries: &'p [Entry<&'t str>]) -> Option<&'p Entry<&'t str
 }
 
 /// The only entry of a text without errors.
-fn one_entry<'p, 't>(part: &'p TextTree<'t>) -> Option<&'p Entry<&'t str>>
+pub(crate) fn one_entry<'p, 't>(part: &'p TextTree<'t>) -> Option<&'p Entry<&'t str>>
     ensures some { (edition : ByEdition) (t : List ℕ) → IsTextTree edition t part.now →
         IfSome result (λ entry. ReadsAs edition t (entry_view (λ text. text.now) entry.now ∷ [])) }
     ensures none { (edition : ByEdition) (t : List ℕ) → IsTextTree edition t part.now →
@@ -137,7 +137,7 @@ fn one_entry<'p, 't>(part: &'p TextTree<'t>) -> Option<&'p Entry<&'t str>>
 }
 
 /// The value that comes after `a =`, as the only part of the only entry of a text without errors.
-fn one_value<'p, 't>(part: &'p TextTree<'t>) -> Option<&'p Pattern<&'t str>>
+pub(crate) fn one_value<'p, 't>(part: &'p TextTree<'t>) -> Option<&'p Pattern<&'t str>>
     ensures some { (edition : ByEdition) (t : List ℕ) → IsTextTree edition t part.now →
         IfSome result (λ value.
         ReadsAs edition t (value_message (pattern_view (λ text. text.now) value.now) ∷ [])) }

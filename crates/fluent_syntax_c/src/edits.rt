@@ -208,7 +208,7 @@ fn edited_text(
 }
 
 /// Why an edit is not made; `None` for want of memory.
-fn edit_refusal(fault: EditFault) -> Option<EditRefusal>
+pub(crate) fn edit_refusal(fault: EditFault) -> Option<EditRefusal>
     ensures { result ≡ edit_refusal fault }
 {
     match fault {
@@ -216,6 +216,7 @@ fn edit_refusal(fault: EditFault) -> Option<EditRefusal>
         EditFault::NoValue => Some(EditRefusal::NoValue),
         EditFault::NotCanonical(rule) => Some(EditRefusal::NotCanonical(rule)),
         EditFault::ReadsOtherwise => Some(EditRefusal::ReadsOtherwise),
+        EditFault::Overlap => Some(EditRefusal::Overlap),
         EditFault::Memory => None,
     }
 }

@@ -6,6 +6,7 @@
 
 mod answers;
 mod arguments;
+mod asked_edits;
 mod canonical;
 mod causes;
 mod columns;
@@ -25,6 +26,7 @@ mod pattern_nodes;
 mod readings;
 mod rows;
 mod rules;
+mod several_edits;
 mod status;
 mod status_names;
 mod text_trees;
@@ -42,5 +44,6 @@ pub use messages::{ftl_error_messages, ftl_kind_name};
 pub use name_indexes::FtlText;
 pub use names::{FtlName, ftl_names};
 pub use nodes::{FtlNode, ftl_nodes};
+pub use several_edits::{FtlEdit, ftl_edit_all};
 pub use status_names::{ftl_status_name, ftl_version};
 pub use values::{FtlValue, ftl_values};

@@ -48,6 +48,8 @@ pub enum EditRefusal {
     NoValue,
     /// What is new has syntax errors.
     PartHasErrors,
+    /// Of several edits, two change the same stretch, or they are not in the order of the text.
+    Overlap,
     /// The new text would be read otherwise, and what is new breaks this rule of canonical trees first.
     NotCanonical(Rule),
 }
@@ -91,6 +93,7 @@ impl EditRefusal {
             EditRefusal::ReadsOtherwise => 10,
             EditRefusal::NoValue => 11,
             EditRefusal::PartHasErrors => 12,
+            EditRefusal::Overlap => 13,
             EditRefusal::NotCanonical(rule) => rule_number(rule),
         }
     }

@@ -10,7 +10,7 @@ use ftl::Outcome;
 use std::alloc::Global;
 
 /// The names of the statuses from 0 on.
-const FIRST_NAMES: [&str; 13] = [
+const FIRST_NAMES: [&str; 14] = [
     "Clean",
     "SyntaxErrors",
     "WrongArgument",
@@ -24,6 +24,7 @@ const FIRST_NAMES: [&str; 13] = [
     "ReadsOtherwise",
     "NoValue",
     "PartHasErrors",
+    "Overlap",
 ];
 
 /// The names of the rules of canonical trees, which are statuses from 101 on.

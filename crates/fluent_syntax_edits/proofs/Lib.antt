@@ -1,6 +1,10 @@
 pub mod Answered
 pub mod Compared
+pub mod Dropped
+pub mod Refused
 pub mod Numbered
 pub mod OneEntry
+pub mod DraftSteps
+pub mod ErrorMoves
 pub mod JoinedParts
 pub mod EntryPlacesRead

@@ -2,6 +2,7 @@
 use Rattle.std.specs.Prelude.{◌≡◌, ℕ, ◌+◌, ◌<◌, List, ◌++◌, length, drop, take, map}
 use Rattle.std.specs.Prelude.{Some, Result, Ok, Err, String, string_bytes}
 use Rattle.std.specs.Global.{Global}
+use Rattle.fluent_syntax_tree.specs.Entry.{BodyTree}
 use Rattle.fluent_syntax_tree.specs.View.{resource_view}
 use Rattle.fluent_syntax_tree.specs.declared.ast.Resource.{Resource}
 use Rattle.fluent_syntax_tree.specs.declared.errors.ParserError.{ParserError}
@@ -9,7 +10,8 @@ use Rattle.fluent_syntax_tree.specs.declared.edition.Edition.{Edition}
 use Rattle.fluent_syntax_tree.specs.declared.spans.Span.{Span}
 use Rattle.fluent_syntax_grammar.specs.Body.{faults}
 use Rattle.fluent_syntax_grammar.specs.RoundTrip.{tree_of}
-use Rattle.fluent_syntax_grammar.specs.Tiling.{Tile, Tiling}
+use Rattle.fluent_syntax_grammar.specs.Tiling.{Fault, Tile, Tiling}
+use Rattle.fluent_syntax_grammar.specs.Written.{Text}
 use Rattle.fluent_syntax_parser.specs.Faults.{fault_of}
 use Rattle.fluent_syntax_edits.specs.Changes.{Change, tree_after, after_line_ends, attempts, refusal}
 use Rattle.fluent_syntax_edits.specs.Errors.{moved_fault}
@@ -26,6 +28,16 @@ pub record ReadAs (edition : Edition) (t : List ℕ) (r : Resource (String Globa
   pub tree : resource_view (λ s. string_bytes s) r ≡ tree_of t tiles
   pub errors : map fault_of es ≡ map Some (faults tiles)
 
+-- The new text u is read as the tree of the text t with that made of it, and with the errors of t, each moved.
+pub record ReadsAfter (edition : Edition) (t u : List ℕ) (after : BodyTree Text → BodyTree Text)
+    (moved : Fault → Fault) : Type 0 where
+  pub tiles : List Tile
+  pub others : List Tile
+  pub tiling : Tiling edition t tiles
+  pub new_tiling : Tiling edition u others
+  pub tree : tree_of u others ≡ after (tree_of t tiles)
+  pub errors : faults others ≡ map moved (faults tiles)
+
 module _ (edition : Edition) (t : List ℕ) (n : ℕ) (change : Change) where
   -- ---- the new text
 
@@ -36,13 +48,8 @@ module _ (edition : Edition) (t : List ℕ) (n : ℕ) (change : Change) where
 
   -- The new text u is read as the tree of the text with the change made in it, and with the text's errors; what comes
   -- after the stretch begins there now.
-  pub record ReadsChanged (s : Span) (to : ℕ) (u : List ℕ) : Type 0 where
-    pub tiles : List Tile
-    pub others : List Tile
-    pub tiling : Tiling edition t tiles
-    pub new_tiling : Tiling edition u others
-    pub tree : tree_of u others ≡ tree_after change n (tree_of t tiles)
-    pub errors : faults others ≡ map (moved_fault s to) (faults tiles)
+  abbrev pub ReadsChanged : (s : Span) (to : ℕ) (u : List ℕ) → Type 0
+  ReadsChanged s to u = ReadsAfter edition t u (tree_after change n) (moved_fault s to)
 
   -- The text with so many line ends is read so.
   abbrev pub IsRead : (k : ℕ) → Span → Type 0

@@ -4,3 +4,7 @@ pub mod Errors
 pub mod Numbers
 pub mod EntryPlaces
 pub mod AttributeChanges
+pub mod Additions
+pub mod SeveralEdits
+pub mod Drafts
+pub mod Passed

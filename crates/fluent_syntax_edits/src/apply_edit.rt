@@ -1,13 +1,15 @@
 //! Edits of trees.
 ghost use Rattle.std.specs.Prelude.{◌≡◌, map, OnOk, string_bytes};
 ghost use Rattle.fluent_syntax_edits.specs.Changes.{change_of, tree_after, with_attribute, with_target};
+ghost use Rattle.fluent_syntax_edits.specs.SeveralEdits.{numbered_change, tree_after_all};
 ghost use Rattle.fluent_syntax_tree.specs.Entry.{message, term};
 ghost use Rattle.fluent_syntax_tree.specs.View.{attribute_view, entry_view, message_view, pattern_view, term_view};
 
-use crate::edit::Edit;
+use crate::edit::{Edit, copied};
 use crate::edited_ranges::ValueTarget;
+use crate::numbered_edits::NumberedEdit;
 use fluent_syntax_tree::ast::{Attribute, Entry, Message, Pattern, Term};
-use std::alloc::AllocError;
+use std::alloc::{AllocError, Global};
 
 /// Sets the value of the attribute of that number, if it is there.
 fn set_attribute(attributes: &mut Vec<Attribute<String>>, number: usize, value: Pattern<String>)
@@ -75,6 +77,24 @@ pub(crate) fn apply(
         Edit::Replace(_) => {}
         Edit::Set(_, _) => {}
         Edit::Remove => {}
+    }
+    Ok(())
+}
+
+/// Makes each edit in a tree, the last one first: the numbers are those of the tree as it is.
+pub(crate) fn apply_all(
+    alloc: Global,
+    edits: &[NumberedEdit],
+    body: &mut Vec<Entry<String>>,
+) -> Result<(), AllocError>
+    ensures { OnOk result (map (entry_view (λ s. string_bytes s)) body.new.items
+        ≡ tree_after_all (map numbered_change edits.now) (map (entry_view (λ s. string_bytes s)) body.old.items)) }
+{
+    let mut count = edits.len();
+    while count > 0 {
+        count -= 1;
+        let edit = &edits[count];
+        apply(copied(alloc, &edit.edit)?, body, edit.index)?;
     }
     Ok(())
 }

@@ -109,7 +109,7 @@ fn field_start(entry_places: &[EntryPlace], index: usize) -> Result<usize, EditF
 }
 
 /// The stretch that the edit of the entry of that number changes, by the places of the entries.
-fn range_by(
+pub(crate) fn range_by(
     alloc: Global,
     source: &str,
     edition: Edition,

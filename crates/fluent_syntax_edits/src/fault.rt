@@ -24,6 +24,9 @@ pub enum EditFault {
     /// The text would be read otherwise than as the source with the edit made, or with other errors.
     #[error("the text would be read otherwise")]
     ReadsOtherwise,
+    /// Of several edits, two change the same stretch, or they are not in the order of the text.
+    #[error("two edits change the same stretch, or they are not in the order of the text")]
+    Overlap,
     /// A growth was refused.
     #[error("no memory")]
     Memory,

@@ -27,7 +27,7 @@ pub(crate) struct Shift {
     pub(crate) to: usize,
 }
 
-fn is_same_kind(kind: &ErrorKind, other: &ErrorKind) -> bool
+pub(crate) fn is_same_kind(kind: &ErrorKind, other: &ErrorKind) -> bool
     ensures { IsTrue result ↔ (kind_of other.now ≡ kind_of kind.now) }
 {
     other == kind
@@ -44,7 +44,12 @@ fn is_moved_place(shift: Shift, stays: bool, place: usize, other: usize) -> bool
     }
 }
 
-fn is_moved_range(shift: Shift, stays: bool, range: &Range<usize>, other: &Range<usize>) -> bool
+pub(crate) fn is_moved_range(
+    shift: Shift,
+    stays: bool,
+    range: &Range<usize>,
+    other: &Range<usize>,
+) -> bool
     ensures { IsTrue result ↔ ((other.now.start ≡ moved_place stays shift.replaced.end shift.to range.now.start)
         × (other.now.end ≡ moved_place stays shift.replaced.end shift.to range.now.end)) }
 {
@@ -86,7 +91,7 @@ pub(crate) fn are_moved(shift: Shift, errors: &[ParserError], others: &[ParserEr
 }
 
 /// The tree that the text is read as, with texts of its own, and its errors.
-fn read(
+pub(crate) fn read(
     alloc: Global,
     text: &String,
     edition: Edition,

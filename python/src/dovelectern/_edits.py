@@ -1,5 +1,6 @@
-"""Edits of a text: one message or term changed, and all else as it is, byte for byte."""
-from typing import Optional, Sequence, Union
+"""Edits of a text: messages or terms changed, and all else as it is, byte for byte."""
+from dataclasses import dataclass
+from typing import Dict, Iterable, Optional, Sequence, Tuple, Union
 
 from . import _library, ast
 from ._calls import as_edition, serialize_entry, value_text
@@ -52,6 +53,107 @@ def remove(text: Text, name: str, *, edition: int = 1, nesting: int = NESTING) -
     raises what `set_value` raises.
     """
     return _edited("ftl_remove", [text, name], edition, nesting)
+
+
+@dataclass(frozen=True)
+class SetValue:
+    """What `set_value` does, as one of several edits."""
+
+    name: str
+    value: Union[Text, ast.Pattern]
+
+
+@dataclass(frozen=True)
+class SetAttribute:
+    """What `set_attribute` does, as one of several edits."""
+
+    name: str
+    attribute: str
+    value: Union[Text, ast.Pattern]
+
+
+@dataclass(frozen=True)
+class Replace:
+    """What `replace` does, as one of several edits."""
+
+    name: str
+    entry: Union[Text, ast.AnyEntry]
+
+
+@dataclass(frozen=True)
+class Insert:
+    """What `insert` does, as one of several edits."""
+
+    entry: Union[Text, ast.AnyEntry]
+    before: Optional[str] = None
+
+
+@dataclass(frozen=True)
+class Remove:
+    """What `remove` does, as one of several edits."""
+
+    name: str
+
+
+Edit = Union[SetValue, SetAttribute, Replace, Insert, Remove]
+
+
+def edit_all(text: Text, edits: Iterable[Edit], *, edition: int = 1, nesting: int = NESTING) -> str:
+    """The text with each edit made, in the time of one. Names are those of the text as it is, and the edits may come in
+    any order; entries that are inserted at one place come in the order of their edits.
+
+    `Overlap` where two edits change the same stretch; for the rest it raises what `set_value` raises.
+    """
+    data, number, depth = _library.as_bytes(text), as_edition(edition), _library.as_nesting(nesting)
+    places = _Places(data, number, depth)
+    given = [_library_edit(it) for it in edits]
+    return _library.edited_all(data, sorted(given, key=places.of), number, depth)
+
+
+_SET_VALUE, _SET_ATTRIBUTE, _REPLACE, _INSERT, _REMOVE = range(1, 6)
+_TERM, _ATTRIBUTE = 2, 3
+
+
+class _Places:
+    """Where edits are in a text."""
+
+    def __init__(self, text: bytes, edition: int, nesting: int) -> None:
+        self.entries: Dict[bytes, int] = {}
+        self.attributes: Dict[Tuple[int, bytes], int] = {}
+        for row in _library.names(text, edition, nesting):
+            name = text[row.start:row.end]
+            if row.kind == _ATTRIBUTE:
+                self.attributes.setdefault((row.entry_start, name), row.start)
+            else:
+                self.entries.setdefault((b"-" if row.kind == _TERM else b"") + name, row.entry_start)
+        self.end = len(text) + 1
+
+    def of(self, edit: _library.Edit) -> Tuple[int, int]:
+        """The entry's place, and that within the entry, before which an insertion is."""
+        entry = self.entries.get(edit.name, self.end)
+        if edit.kind == _INSERT:
+            return entry, -1
+        return entry, self.attributes.get((entry, edit.attribute), 0) if edit.kind == _SET_ATTRIBUTE else 0
+
+
+def _library_edit(edit: Edit) -> _library.Edit:
+    parts: Tuple[Text, Text, Text, int]
+    if isinstance(edit, SetValue):
+        parts = (edit.name, b"", _value_text(edit.value), _SET_VALUE)
+    elif isinstance(edit, SetAttribute):
+        parts = (edit.name, edit.attribute, _value_text(edit.value), _SET_ATTRIBUTE)
+    elif isinstance(edit, Replace):
+        parts = (edit.name, b"", _entry_text(edit.entry), _REPLACE)
+    elif isinstance(edit, Insert):
+        if edit.before == "":
+            raise NotFound("no message or term has no name")
+        parts = (edit.before or b"", b"", _entry_text(edit.entry), _INSERT)
+    elif isinstance(edit, Remove):
+        parts = (edit.name, b"", b"", _REMOVE)
+    else:
+        raise TypeError(f"an edit is SetValue, SetAttribute, Replace, Insert or Remove, not {type(edit).__name__}")
+    name, attribute, part, kind = parts
+    return _library.Edit(_library.as_bytes(name), _library.as_bytes(attribute), _library.as_bytes(part), kind)
 
 
 def _entry_text(entry: Union[Text, ast.AnyEntry]) -> Text:

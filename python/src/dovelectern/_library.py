@@ -5,7 +5,7 @@ import os
 import struct
 from typing import Any, List, NamedTuple, Optional, Sequence, Tuple, Union
 
-from .errors import NotFound, NotOneEntry, NoTree, NoValue, PartHasErrors, ReadsOtherwise, TooDeep
+from .errors import NotFound, NotOneEntry, NoTree, NoValue, Overlap, PartHasErrors, ReadsOtherwise, TooDeep
 
 Text = Union[str, bytes, bytearray, memoryview]
 
@@ -16,7 +16,7 @@ GREATEST_NESTING = 1000
 
 FORMAT, RUNTIME, JSON, FORMAT_TWO, FROM_JSON = 1, 2, 3, 5, 6
 _CLEAN, _SYNTAX_ERRORS, _WRONG_ARGUMENT, _NOT_UTF8, _NO_MEMORY, _TOO_SMALL, _TOO_DEEP, _NO_TREE = range(8)
-_NOT_FOUND, _NOT_ONE_ENTRY, _READS_OTHERWISE, _NO_VALUE, _PART_HAS_ERRORS = range(8, 13)
+_NOT_FOUND, _NOT_ONE_ENTRY, _READS_OTHERWISE, _NO_VALUE, _PART_HAS_ERRORS, _OVERLAP = range(8, 14)
 _FIRST_RULE = 101
 
 
@@ -43,6 +43,31 @@ class CauseRow(NamedTuple):
     column_characters: int
     start: int
     end: int
+    kind: int
+
+
+class NameRow(NamedTuple):
+    """A name's places, in bytes; its column also in UTF-16 units and in characters. `owner` is the number of the row of
+    the message or term, whose stretch is `entry_start` up to `entry_end`."""
+
+    line: int
+    column: int
+    column_utf16: int
+    column_characters: int
+    start: int
+    end: int
+    owner: int
+    entry_start: int
+    entry_end: int
+    kind: int
+
+
+class Edit(NamedTuple):
+    """An edit of several: the name of the entry, that of the attribute, what is new, and the number of what is done."""
+
+    name: bytes
+    attribute: bytes
+    part: bytes
     kind: int
 
 
@@ -73,10 +98,11 @@ class FindingRow(NamedTuple):
     severity: int
 
 
-# struct ftl_error, ftl_cause, ftl_node and ftl_finding: numbers of type size_t, up to two of 32 bits, and
+# struct ftl_error, ftl_cause, ftl_name, ftl_node and ftl_finding: numbers of type size_t, up to two of 32 bits, and
 # what is added for the next row
 ROW = struct.Struct("@8NI0N")
 CAUSE_ROW = struct.Struct("@6NI0N")
+NAME_ROW = struct.Struct("@9NI0N")
 NODE_ROW = struct.Struct("@3NI0N")
 FINDING_ROW = struct.Struct("@10N2I0N")
 
@@ -85,6 +111,14 @@ class _Text(ctypes.Structure):
     """struct ftl_text."""
 
     _fields_ = [("text", ctypes.c_char_p), ("text_len", ctypes.c_size_t)]
+
+
+class _Edit(ctypes.Structure):
+    """struct ftl_edit."""
+
+    _fields_ = [("name", ctypes.c_char_p), ("name_len", ctypes.c_size_t), ("attribute", ctypes.c_char_p),
+                ("attribute_len", ctypes.c_size_t), ("part", ctypes.c_char_p), ("part_len", ctypes.c_size_t),
+                ("kind", ctypes.c_uint32)]
 
 
 def _load() -> ctypes.CDLL:
@@ -99,6 +133,7 @@ def _load() -> ctypes.CDLL:
     text, written = [ctypes.c_char_p, size], [ctypes.c_void_p, size, ctypes.POINTER(size)]
     calls: List[Tuple[str, List[Any]]] = [
         ("ftl_answer", [size, *text]), ("ftl_errors", [size, *text]), ("ftl_nodes", [size, *text]),
+        ("ftl_names", [size, *text]), ("ftl_edit_all", [size, *text, ctypes.POINTER(_Edit), size]),
         ("ftl_error_messages", [size, *text]),
         ("ftl_causes", [size, *text]), ("ftl_cause_messages", [size, *text]),
         ("ftl_findings", [size, ctypes.POINTER(_Text), size]), ("ftl_comparison", [size, *text, *text]),
@@ -137,12 +172,14 @@ def as_nesting(nesting: int) -> int:
     return depth
 
 
-def _items(name: str, number: int, nesting: int, texts: Sequence[bytes], width: int,
-           room: int) -> Tuple[memoryview, bool]:
+def _items(name: str, number: int, nesting: int, texts: Sequence[bytes], width: int, room: int,
+           edits: Optional[Sequence[Edit]] = None) -> Tuple[memoryview, bool]:
     """The items that a call wrote, each of so many bytes, and whether a text has errors."""
     needed = ctypes.c_size_t()
     call = getattr(_library, name)
     given = _given(texts) if name == "ftl_findings" else [it for text in texts for it in (text, len(text))]
+    if edits is not None:
+        given += [(_Edit * len(edits))(*[_edit(it) for it in edits]), len(edits)]
     while True:
         # a type of an array for each length would take longer than most calls
         array = bytearray(width * room)
@@ -162,6 +199,11 @@ def _given(texts: Sequence[bytes]) -> List[Any]:
     return [(_Text * len(texts))(*[_Text(text, len(text)) for text in texts]), len(texts)]
 
 
+def _edit(edit: Edit) -> _Edit:
+    texts = (edit.name, edit.attribute, edit.part)
+    return _Edit(*[it for text in texts for it in (text, len(text))], edit.kind)
+
+
 def _refusal(name: str, number: int, nesting: int, texts: Sequence[bytes], status: int) -> Exception:
     """Why a call gave nothing."""
     if status == _NOT_UTF8:
@@ -176,9 +218,12 @@ def _refusal(name: str, number: int, nesting: int, texts: Sequence[bytes], statu
         if number == FROM_JSON and name in ("ftl_answer", "ftl_is_canonical", "ftl_first_uncanonical"):
             return TooDeep("the tree nests more deeply than the library takes trees")
         which = "the text" if len(texts) == 1 else "one of the texts"
+        which = "one of the texts" if name == "ftl_edit_all" else which
         return TooDeep(f"{which} nests placeables and argument lists more than {nesting} deep")
     if status == _NO_TREE:
         return NoTree("this spells no tree")
+    if name == "ftl_edit_all":
+        return _refusal_of_several(status)
     if status == _NOT_FOUND:
         return NotFound(f"no message or term is named {texts[1].decode()}")
     if status == _NO_VALUE:
@@ -190,9 +235,28 @@ def _refusal(name: str, number: int, nesting: int, texts: Sequence[bytes], statu
     if status == _PART_HAS_ERRORS:
         return PartHasErrors(f"the {what} has syntax errors")
     if status == _READS_OTHERWISE or status >= _FIRST_RULE:
-        rule = None if status == _READS_OTHERWISE else _name("ftl_status_name", status)
-        return ReadsOtherwise("the new text would be read otherwise than as the text with the edit made", rule)
+        return _reads_otherwise("the edit", status)
     return ValueError(f"{name} has no number {number}")
+
+
+def _refusal_of_several(status: int) -> Exception:
+    """Why none of several edits is made."""
+    if status == _NOT_FOUND:
+        return NotFound("no message or term has the name of one of the edits")
+    if status == _NO_VALUE:
+        return NoValue("what has the name of one of the edits has no value, or no such attribute")
+    if status == _NOT_ONE_ENTRY:
+        return NotOneEntry("what is new in one of the edits is not exactly one entry or value")
+    if status == _PART_HAS_ERRORS:
+        return PartHasErrors("what is new in one of the edits has syntax errors")
+    if status == _OVERLAP:
+        return Overlap("two of the edits change the same stretch")
+    return _reads_otherwise("each edit", status)
+
+
+def _reads_otherwise(what: str, status: int) -> Exception:
+    rule = None if status == _READS_OTHERWISE else _name("ftl_status_name", status)
+    return ReadsOtherwise(f"the new text would be read otherwise than as the text with {what} made", rule)
 
 
 def answer(command: int, text: bytes, nesting: int) -> Tuple[str, bool]:
@@ -256,6 +320,18 @@ def edited(call: str, texts: Sequence[bytes], edition: int, nesting: int) -> str
     """The first of the texts with an edit made at the entry that the second names; the third is what is new."""
     room = 2 * sum(map(len, texts)) + 1024
     return str(_items(call, edition, nesting, texts, 1, room)[0], "utf-8")
+
+
+def edited_all(text: bytes, edits: Sequence[Edit], edition: int, nesting: int) -> str:
+    """The text with each edit made; they come in its order."""
+    room = 2 * len(text) + sum(len(it.part) for it in edits) * 2 + 1024
+    return str(_items("ftl_edit_all", edition, nesting, [text], 1, room, edits)[0], "utf-8")
+
+
+def names(text: bytes, edition: int, nesting: int) -> List[NameRow]:
+    """The names of the messages, terms and attributes of the text, in order."""
+    rows, _ = _items("ftl_names", edition, nesting, [text], NAME_ROW.size, 64 + len(text) // 32)
+    return [NameRow(*numbers) for numbers in NAME_ROW.iter_unpack(rows)]
 
 
 def is_canonical(json: bytes, edition: int) -> bool:

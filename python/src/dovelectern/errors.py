@@ -151,6 +151,10 @@ class NoValue(NotFound):
     """The message or term has no value, or no such attribute."""
 
 
+class Overlap(FluentError):
+    """Two of several edits change the same stretch."""
+
+
 class NotOneEntry(FluentError):
     """What is new is not exactly one entry, or one value, without errors."""
 

@@ -1,6 +1,7 @@
 use Rattle.std.proofs.Common.{◌∙◌, subst, sym}
 use Rattle.std.specs.Prelude.{IsTrue, string_bytes}
-use Rattle.fluent_syntax_edits.specs.Changes.{change_of}
+use Rattle.fluent_syntax_edits.specs.Changes.{change_of, tree_after}
+use Rattle.fluent_syntax_edits.specs.Errors.{moved_fault}
 use Rattle.fluent_syntax_edits.proofs.Compared.{compared}
 use Rattle.fluent_syntax_edits.proofs.reading.reads_changed.Goals as goal
 use Rattle.fluent_syntax_edits.proofs.reading.reads_changed.Goals.{else-same_texts, then-same_texts}
@@ -9,8 +10,9 @@ pub returns : goal.returns
 returns c =
     let old = rw c.in_ok-source.ensures.ok at c.in_ok-tree.ensures in
     let compared =
-    compared c.args.edition c.args.source.now (string_bytes c.args.made.now) c.args.index (change_of c.args.edit.now)
-    c.args.shift.replaced c.args.shift.to c.in_ok-tree.tree c.in_ok-new_tree.new_tree c.in_ok-tree.errors.items
+    compared c.args.edition c.args.source.now (string_bytes c.args.made.now)
+    (tree_after (change_of c.args.edit.now) c.args.index) (moved_fault c.args.shift.replaced c.args.shift.to)
+    c.in_ok-tree.tree c.in_ok-new_tree.new_tree c.in_ok-tree.errors.items
     c.in_ok-new_tree.new_errors.items old c.in_ok-new_tree.ensures in
     let applied = rw c.in_ok-copied.ensures at c.in_ok-apply.ensures in
     elim c.if-same_texts.branch [

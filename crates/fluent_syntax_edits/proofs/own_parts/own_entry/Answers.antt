@@ -1,7 +1,7 @@
 use Rattle.std.proofs.Common.{[], ◌∷◌, ◌++◌, ◌∙◌, ap, map, string_bytes}
 use Rattle.fluent_syntax_tree.specs.View.{entry_view}
 use Rattle.fluent_syntax_edits.proofs.JoinedParts.{last_joined_entry_is_joined_part}
-use Rattle.fluent_syntax_edits.proofs.edits.own_entry.Goals as goal
+use Rattle.fluent_syntax_edits.proofs.own_parts.own_entry.Goals as goal
 
 pub returns-in-Some : goal.returns-in-Some
 returns-in-Some g c =
