@@ -3,6 +3,7 @@
 use crate::commands::{color, exclude, texts_of};
 use crate::lint_args::{deny_warnings, form, ignore, ignored_of, nesting};
 use crate::options::Options;
+use crate::request::Change;
 use clap::{Arg, ArgAction, ArgMatches, Command, Error};
 use ftl_files::{DIFFERENCE_NAMES, IgnoreRule};
 use std::alloc::{AllocError, Global};
@@ -16,6 +17,8 @@ pub struct Compare<'a> {
     pub ignored: Vec<IgnoreRule>,
     /// Whether warnings make the status 1, as errors do.
     pub denies_warnings: bool,
+    /// What becomes of what is missing; None where it is reported.
+    pub addition: Option<Change>,
     /// What is passed over in folders.
     pub excluded: Vec<&'a str>,
     /// Files, or folders for every file below: the reference, where the project names none, and the others.
@@ -39,6 +42,7 @@ pub(crate) fn compare_command<'a>(alloc: Global) -> Result<Command<'a>, AllocErr
 
 Where ftl.toml has the line reference = \"locales/en\":
   ftl compare                     each language in locales
+  ftl compare --add-missing       adds to each what it is missing, in the reference's language
   ftl compare locales/de          that one
   ftl compare locales/de/menu.ftl with locales/en/menu.ftl",
         )
@@ -46,9 +50,51 @@ Where ftl.toml has the line reference = \"locales/en\":
         .arg(color(alloc))?
         .arg(ignore(alloc, IGNORE_HELP))?
         .arg(deny_warnings(alloc))?
+        .arg(add_missing(alloc))?
+        .arg(names_only(alloc)?)?
+        .arg(diff(alloc)?)?
         .arg(exclude(alloc))?
         .arg(nesting(alloc))?
         .arg(paths(alloc))
+}
+
+fn add_missing<'a>(alloc: Global) -> Arg<'a> {
+    Arg::new(alloc, "add-missing")
+        .long("add-missing")
+        .help(
+            "Adds the messages and terms that are missing, as the reference has them, where its order puts them",
+        )
+        .action(ArgAction::SetTrue)
+}
+
+fn names_only<'a>(alloc: Global) -> Result<Arg<'a>, AllocError> {
+    Arg::new(alloc, "check")
+        .long("check")
+        .help("Names the files that --add-missing would change, with status 1")
+        .action(ArgAction::SetTrue)
+        .requires_arg("add-missing")
+}
+
+fn diff<'a>(alloc: Global) -> Result<Arg<'a>, AllocError> {
+    Arg::new(alloc, "diff")
+        .long("diff")
+        .help("Shows what --add-missing would change, with status 1")
+        .action(ArgAction::SetTrue)
+        .requires_arg("add-missing")?
+        .conflicts_with("check")
+}
+
+/// What becomes of what is missing, as the options say.
+fn addition_of(options: &ArgMatches<'_>) -> Option<Change> {
+    if !options.get_flag("add-missing") {
+        None
+    } else if options.get_flag("check") {
+        Some(Change::Name)
+    } else if options.get_flag("diff") {
+        Some(Change::Show)
+    } else {
+        Some(Change::Write)
+    }
 }
 
 fn paths<'a>(alloc: Global) -> Arg<'a> {
@@ -72,6 +118,7 @@ pub(crate) fn compare_of<'a>(
         options: said,
         ignored: ignored_of(alloc, options, DIFFERENCE_NAMES.as_slice())?,
         denies_warnings: options.get_flag("deny-warnings"),
+        addition: addition_of(options),
         excluded: texts_of(alloc, options, "exclude")?,
         paths: texts_of(alloc, options, "paths")?,
     })

@@ -15,6 +15,7 @@ mod levels;
 mod limits;
 mod listing;
 mod memory;
+mod missing;
 mod nearness;
 mod options;
 mod originals;
@@ -26,6 +27,7 @@ mod settings;
 mod settings_fault;
 mod settings_folders;
 mod settings_kinds;
+mod spelling;
 mod store;
 mod uris;
 
@@ -43,6 +45,7 @@ pub use levels::Levels;
 pub use limits::{BYTES_LIMIT, FILE_LIMIT, FILES_LIMIT, FOLDERS_LIMIT};
 pub use listing::{Listing, list};
 pub use memory::Memory;
+pub use missing::missing_names;
 pub use nearness::shared_folders;
 pub use options::{
     BlankLines, Color, Form, Output, Reading, blank_lines_of_name, color_of_name, output_of_name,
@@ -53,5 +56,6 @@ pub use reading::{SourceFile, SourceFiles, read_files};
 pub use replacing::replace_file;
 pub use settings::{FolderRules, Settings, settings_of};
 pub use settings_fault::SettingsFault;
+pub use spelling::nearest_name;
 pub use store::Store;
 pub use uris::{path_of_uri, uri_of_path};

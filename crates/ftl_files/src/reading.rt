@@ -26,8 +26,8 @@ pub struct SourceFiles {
     pub is_whole: bool,
 }
 
-/// The files below the folder whose names end in `.ftl`, each as it is now, in the order of their paths. Left out is one
-/// that can't be read or is no UTF-8, that has more than `FILE_LIMIT` bytes, or that would pass `BYTES_LIMIT` bytes. What
+/// The files below the folder whose names end in `.ftl`, each as it is now, in the order of their paths. Left out is
+/// one that can't be read or is no UTF-8, that has more than `FILE_LIMIT` bytes, or that would pass `BYTES_LIMIT`. What
 /// is excluded is not listed, and after `FILES_LIMIT` files none is read. `AllocError` where a growth was refused.
 pub fn read_files<F: Folders>(
     alloc: Global,

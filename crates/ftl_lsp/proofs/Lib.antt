@@ -1,3 +1,4 @@
+pub mod ActionLemmas
 pub mod ByteLemmas
 pub mod ChangeLemmas
 pub mod FrameLemmas

@@ -6,13 +6,16 @@ use Rattle.std.proofs.lemmas.List.Elements.{All-push}
 use Rattle.std.specs.Prelude.{ℤ, is_some, option_map, slice_range}
 use Rattle.fluent_syntax_grammar.specs.Spellings.{is_name}
 use Rattle.fluent_syntax_tree.specs.declared.spans.Span.{Span}
-use Rattle.serde_json.specs.Data.{Data}
-use Rattle.serde_json.specs.View.{view}
-use Rattle.serde_json.specs.declared.value.Value.{Value}
+use Rattle.std.proofs.Common.{String, Vec, Global, string_bytes, string_cmp}
+use Rattle.std.specs.BTreeMap.{insert_entry}
+use Rattle.serde_json.proofs.Views.{Entry, members_view-insert_entry, view-Array}
+use Rattle.serde_json.specs.Data.{Data, put}
+use Rattle.serde_json.specs.View.{members_view, view}
+use Rattle.serde_json.specs.declared.value.Value.{Value, Array}
 use Rattle.ftl_lsp.specs.Locations.{edit_form}
 use Rattle.ftl_lsp.specs.Occurrences.{IsCut}
 use Rattle.ftl_lsp.specs.OpenDocuments.{OpenText}
-use Rattle.ftl_lsp.specs.Renaming.{HasText, RenamesAt, renames_at}
+use Rattle.ftl_lsp.specs.Renaming.{HasText, RenamesAt, RenamesEach, renames_at, renames_one_more}
 
 -- what holds of a list's values holds with one more
 pub All-append_value : (P : Data → Type 0) (old new : List Value) (value : Value) → new ≡ old ++ value ∷ [] →
@@ -49,3 +52,17 @@ has_open_text texts uri t version found open' (inl is) = ap (text_of_open_docume
     text_of_open_document_or other None = other
     text_of_open_document_or other (Some there) = there.text
 has_open_text texts uri t version found open' (inr h) = absurd (true≢false (sym (ap is_some open') ∙ ap is_some h.0))
+
+-- the edits of one document more, under its name
+pub edits_of_one_more : (texts : List ℕ → Option OpenText) (old identifier uri t : List ℕ) (version : Option ℤ)
+    (entries new : List Entry) (key : String Global) (edits : Vec Value Global) →
+    new ≡ insert_entry string_cmp entries key (Array edits) → string_bytes key ≡ uri → HasText texts uri t version →
+    All (RenamesAt t old identifier) (map view edits.items) → RenamesEach texts old identifier (members_view entries) →
+    RenamesEach texts old identifier (members_view new)
+edits_of_one_more texts old identifier uri t version entries new key edits is named here all before =
+    let more = renames_one_more (string_bytes key) t version (map view edits.items) (members_view entries)
+    (subst (λ (name : List ℕ). HasText texts name t version) (sym named) here) all before in
+    let seen = subst (λ (value : Data). RenamesEach texts old identifier
+    (put (string_bytes key) value (members_view entries))) (sym (view-Array edits)) more in
+    subst (RenamesEach texts old identifier)
+    (sym (ap members_view is ∙ members_view-insert_entry entries key (Array edits))) seen

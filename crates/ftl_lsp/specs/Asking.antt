@@ -1,13 +1,14 @@
 -- What a request asks of, and what its answer has.
 use Rattle.std.specs.Prelude.{◌≡◌, ◌&&◌, ℕ, List, ⊤, Bool, Option, Some, None, is_some, option_and_then}
 use Rattle.serde_json.specs.Data.{Data, null}
+use Rattle.ftl_lsp.specs.Actions.{AreActions}
 use Rattle.ftl_lsp.specs.Edits.{position_param_in}
 use Rattle.ftl_lsp.specs.Formatting.{FormatsText}
 use Rattle.ftl_lsp.specs.OpenDocuments.{OpenText}
 use Rattle.ftl_lsp.specs.Params.{new_name_in, uri_in}
 use Rattle.ftl_lsp.specs.Renaming.{RenamesName}
 use Rattle.ftl_lsp.specs.declared.sessions.methods.Method.{Method}
-use Rattle.ftl_lsp.specs.declared.sessions.methods.Method.TheVariants.{Formatting, Rename, Shutdown}
+use Rattle.ftl_lsp.specs.declared.sessions.methods.Method.TheVariants.{CodeAction, Formatting, Rename, Shutdown}
 
 -- whether the message names a document that is open
 abbrev pub names_open : (texts : List ℕ → Option OpenText) → Data → Bool
@@ -30,5 +31,6 @@ IsFormattingOf None result = ⊤
 abbrev pub IsResult : (texts : List ℕ → Option OpenText) → Data → Option Method → (result : Data) → Type 0
 IsResult texts d (Some Formatting) result = IsFormattingOf (option_and_then texts (uri_in d)) result
 IsResult texts d (Some Rename) result = RenamesName texts d result
+IsResult texts d (Some CodeAction) result = AreActions texts d result
 IsResult texts d (Some Shutdown) result = result ≡ null
 IsResult texts d _ result = ⊤

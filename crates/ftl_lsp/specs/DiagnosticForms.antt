@@ -15,6 +15,7 @@ use Rattle.ftl_files.specs.declared.kinds.ReportedKind.{ReportedKind}
 use Rattle.ftl_files.specs.declared.kinds.ReportedKind.TheVariants as kinds
 use Rattle.ftl_files.specs.declared.levels.Levels.{Levels}
 use Rattle.ftl_lsp.specs.Diagnostics.{DiagnosesText, shown}
+use Rattle.ftl_lsp.specs.LeftOut.{left_out_sentence}
 use Rattle.ftl_lsp.specs.Locations.{range_form}
 use Rattle.ftl_lsp.specs.declared.diagnostics.Diagnostic.{Diagnostic}
 use Rattle.ftl_lsp.specs.declared.diagnostics.RelatedNote.{RelatedNote}
@@ -22,6 +23,7 @@ use Rattle.ftl_lsp.specs.declared.documents.positions.PositionRange.{PositionRan
 use Rattle.ftl_lsp.specs.declared.documents.positions.Position.{Position}
 use Rattle.ftl_lsp.specs.declared.diagnostics.diagnostic_forms.LintDiagnosticKind.{LintDiagnosticKind}
 use Rattle.ftl_lsp.specs.declared.diagnostics.diagnostic_forms.LintDiagnosticKind.TheVariants.{Difference, Finding}
+use Rattle.ftl_lsp.specs.declared.workspace.left_out.LeftOutReason.{LeftOutReason}
 
 abbrev pub severity_number : Severity → ℕ
 severity_number Error = 1
@@ -97,10 +99,6 @@ abbrev pub code_of : LintDiagnosticKind → List ℕ
 code_of (Finding kind) = finding.name_of kind
 code_of (Difference difference) = difference_name difference
 
-abbrev pub left_out_sentence : List ℕ
-left_out_sentence =
-    codes "the file is not UTF-8, too long or can't be read, so undefined names of its language are not reported"
-
 -- The diagnostic of a finding, or of a difference from the original, as grave as some settings say; or, at the text's
 -- begin, that its file is left out where names are looked for.
 pub data IsLintDiagnostic : Data → Type 0 where
@@ -109,7 +107,8 @@ pub data IsLintDiagnostic : Data → Type 0 where
   with_related : (range : PositionRange) (levels : Levels) (kind : LintDiagnosticKind) (message : List ℕ)
       (positions : Data) →
       IsLintDiagnostic (diagnostic_with_related range (severity_of levels kind) (code_of kind) message positions)
-  left_out : IsLintDiagnostic (diagnostic_form begin Warning (codes "left-out") left_out_sentence)
+  left_out : (reason : LeftOutReason) →
+      IsLintDiagnostic (diagnostic_form begin Warning (codes "left-out") (left_out_sentence (codes "the file") reason))
 
 -- how many diagnostics are not published, in a sentence
 abbrev pub more_sentence : ℕ → List ℕ

@@ -1,3 +1,4 @@
+pub mod Actions
 pub mod Asking
 pub mod HeaderEnds
 pub mod Changes
@@ -9,6 +10,7 @@ pub mod Fields
 pub mod Formatting
 pub mod Frames
 pub mod Inbox
+pub mod LeftOut
 pub mod Locations
 pub mod Messages
 pub mod Methods

@@ -7,8 +7,8 @@ use Rattle.ftl_lsp.specs.declared.sessions.methods.Method.TheVariants.{DidClose,
 use Rattle.ftl_lsp.specs.declared.sessions.methods.Method.TheVariants.{Definition, References, DocumentHighlight}
 use Rattle.ftl_lsp.specs.declared.sessions.methods.Method.TheVariants.{Hover, Rename, Completion, WorkspaceSymbol}
 use Rattle.ftl_lsp.specs.declared.sessions.methods.Method.TheVariants.{SemanticTokens, Initialized}
-use Rattle.ftl_lsp.specs.declared.sessions.methods.Method.TheVariants.{DidChangeWatchedFiles, PrepareRename, SelectionRange}
-use Rattle.ftl_lsp.specs.declared.sessions.methods.Method.TheVariants.{DidChangeWorkspaceFolders}
+use Rattle.ftl_lsp.specs.declared.sessions.methods.Method.TheVariants.{CodeAction, DidChangeWatchedFiles, PrepareRename}
+use Rattle.ftl_lsp.specs.declared.sessions.methods.Method.TheVariants.{SelectionRange, DidChangeWorkspaceFolders}
 
 abbrev pub name_of : Method → List ℕ
 name_of Initialize = codes "initialize"
@@ -34,3 +34,4 @@ name_of DidChangeWatchedFiles = codes "workspace/didChangeWatchedFiles"
 name_of DidChangeWorkspaceFolders = codes "workspace/didChangeWorkspaceFolders"
 name_of PrepareRename = codes "textDocument/prepareRename"
 name_of SelectionRange = codes "textDocument/selectionRange"
+name_of CodeAction = codes "textDocument/codeAction"

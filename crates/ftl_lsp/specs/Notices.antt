@@ -5,6 +5,7 @@ use Rattle.fluent_syntax_names.specs.declared.finding.Severity.{Severity}
 use Rattle.fluent_syntax_names.specs.declared.finding.Severity.TheVariants.{Error, Warning}
 use Rattle.serde_json.specs.Data.{Data, number, unsigned, string, object, member, no_members}
 use Rattle.ftl_lsp.specs.DiagnosticForms.{severity_number}
+use Rattle.ftl_lsp.specs.LeftOut.{left_out_sentence}
 use Rattle.ftl_lsp.specs.declared.sessions.notices.Notice.{Notice}
 use Rattle.ftl_lsp.specs.declared.sessions.notices.Notice.TheVariants.{TooDeep, HasError, LeftOut, NotReadBack}
 use Rattle.ftl_lsp.specs.declared.sessions.notices.Notice.TheVariants.{WrongSettings}
@@ -13,7 +14,7 @@ abbrev pub severity_of : Notice → Severity
 severity_of (TooDeep name) = Warning
 severity_of (HasError name line) = Warning
 severity_of (NotReadBack name) = Warning
-severity_of (LeftOut name) = Warning
+severity_of (LeftOut name reason) = Warning
 severity_of (WrongSettings folder fault) = Error
 
 abbrev pub sentence_of : Notice → List ℕ
@@ -22,9 +23,7 @@ sentence_of (HasError name line) =
     string_bytes name ++ (codes " is not formatted: line " ++ (decimal line ++ codes " has an error"))
 sentence_of (NotReadBack name) =
     string_bytes name ++ codes " is not formatted: what would be written does not read back"
-sentence_of (LeftOut name) =
-    string_bytes name ++
-    codes " is not UTF-8, too long or can't be read, so undefined names of its language are not reported"
+sentence_of (LeftOut name reason) = left_out_sentence (string_bytes name) reason
 sentence_of (WrongSettings folder fault) = string_bytes folder ++ (codes "/ftl.toml: " ++ string_bytes fault)
 
 -- the notification that shows it

@@ -1,6 +1,8 @@
 -- The names in a text, each where it is.
-use Rattle.std.specs.Prelude.{◌≡◌, ◌≤◌, ◌⊎◌, ℕ, List, [], slice_range, unwrap_or}
+use Rattle.std.specs.Prelude.{◌≡◌, ◌==◌, ◌||◌, ◌+◌, ◌≤◌, ◌<◌, ◌⊎◌, ℕ, List, [], Bool, length, slice_index, slice_range}
+use Rattle.std.specs.Prelude.{true, unwrap_or}
 use Rattle.std.specs.Option.{option_map_or}
+use Rattle.fluent_syntax_grammar.specs.Bytes.{dollar_sign, full_stop, hyphen}
 use Rattle.fluent_syntax_tree.specs.declared.spans.Span.{Span}
 use Rattle.ftl_lsp.specs.declared.documents.occurrences.Name.{Name}
 use Rattle.ftl_lsp.specs.declared.documents.occurrences.Occurrence.{Occurrence}
@@ -17,9 +19,22 @@ shown_of name = option_map_or (λ attribute. attribute.now) name.attribute name.
 abbrev pub IsCut : (t : List ℕ) → Span → (bytes : List ℕ) → Type 0
 IsCut t span bytes = (bytes ≡ slice_range t span.start span.end) ⊎ (bytes ≡ [])
 
--- The bytes are those of a span in which the place is, or at whose end.
+-- whether the byte is the `-` of a term, the `$` of a variable or the `.` of an attribute
+abbrev pub is_mark : ℕ → Bool
+is_mark b = (b == hyphen) || ((b == dollar_sign) || (b == full_stop))
+
+-- The byte is such a mark, right before the span.
+pub record IsMarked (t : List ℕ) (at : ℕ) (span : Span) : Type 0 where
+  pub before : at + 1 ≡ span.start
+  pub within : at < length t
+  pub mark : is_mark (slice_index t at) ≡ true
+
+-- The place is in the span, at its end, or at the mark before it.
+abbrev pub IsAt : (t : List ℕ) → (at : ℕ) → Span → Type 0
+IsAt t at span = ((span.start ≤ at) × (at ≤ span.end)) ⊎ IsMarked t at span
+
+-- The bytes are those of a span at which the place is.
 pub record IsNameAt (t : List ℕ) (at : ℕ) (bytes : List ℕ) : Type 0 where
   pub span : Span
-  pub from : span.start ≤ at
-  pub to : at ≤ span.end
+  pub there : IsAt t at span
   pub cut : IsCut t span bytes

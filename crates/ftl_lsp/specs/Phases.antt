@@ -10,8 +10,8 @@ use Rattle.ftl_lsp.specs.declared.sessions.methods.Method.TheVariants.{Definitio
 use Rattle.ftl_lsp.specs.declared.sessions.methods.Method.TheVariants.{Hover, Completion, WorkspaceSymbol}
 use Rattle.ftl_lsp.specs.declared.sessions.methods.Method.TheVariants as methods
 use Rattle.ftl_lsp.specs.declared.sessions.methods.Method.TheVariants.{SemanticTokens, Initialized}
-use Rattle.ftl_lsp.specs.declared.sessions.methods.Method.TheVariants.{DidChangeWatchedFiles, PrepareRename, SelectionRange}
-use Rattle.ftl_lsp.specs.declared.sessions.methods.Method.TheVariants.{DidChangeWorkspaceFolders}
+use Rattle.ftl_lsp.specs.declared.sessions.methods.Method.TheVariants.{CodeAction, DidChangeWatchedFiles, PrepareRename}
+use Rattle.ftl_lsp.specs.declared.sessions.methods.Method.TheVariants.{SelectionRange, DidChangeWorkspaceFolders}
 use Rattle.ftl_lsp.specs.declared.sessions.phases.Phase.{Phase}
 use Rattle.ftl_lsp.specs.declared.sessions.phases.Phase.TheVariants.{Fresh, Running, ShutDown, Exited, Left}
 use Rattle.ftl_lsp.specs.declared.sessions.phases.ErrorCode.{ErrorCode}
@@ -40,7 +40,7 @@ abbrev pub text_of : ErrorCode → List ℕ
 text_of ParseError = codes "the message is no JSON text"
 text_of InvalidRequest = codes "the request has no place here"
 text_of MethodNotFound = codes "the method is not known"
-text_of InvalidParams = codes "the parameters name no open document"
+text_of InvalidParams = codes "the parameters name no open document, or no position or new name there"
 text_of NotInitialized = codes "the server is not initialized"
 text_of (Rename fault) = text_of_rename fault
 
@@ -66,6 +66,7 @@ refusal_after (Some WorkspaceSymbol) = None
 refusal_after (Some SemanticTokens) = None
 refusal_after (Some PrepareRename) = None
 refusal_after (Some SelectionRange) = None
+refusal_after (Some CodeAction) = None
 refusal_after (Some DidOpen) = Some MethodNotFound
 refusal_after (Some DidChange) = Some MethodNotFound
 refusal_after (Some DidClose) = Some MethodNotFound

@@ -1,6 +1,6 @@
 -- What a renaming writes.
 use Rattle.std.specs.Prelude.{◌≡◌, ◌⊎◌, ℕ, ℤ, List, ◌∷◌, slice_range, codes, All, true, Option, Some, None}
-use Rattle.serde_json.specs.Data.{Data, null, number, string, array, object, member, no_members}
+use Rattle.serde_json.specs.Data.{Data, Members, null, number, string, array, object, member, no_members, put}
 use Rattle.serde_json.specs.Find.{of_integer}
 use Rattle.serde_json.specs.View.{items_of}
 use Rattle.fluent_syntax_tree.specs.declared.spans.Span.{Span}
@@ -28,6 +28,10 @@ document_edits_form uri version edits =
 abbrev pub renaming_form : (changes : List Data) → Data
 renaming_form changes = object (member (codes "documentChanges") (array (items_of changes)) no_members)
 
+-- the edits of documents by their names, for an editor that takes no versions
+abbrev pub changes_form : Members → Data
+changes_form changes = object (member (codes "changes") (object changes) no_members)
+
 -- The identifier is the new name, or what follows the `-` with which that begins.
 abbrev pub IsIdentifierOf : (new identifier : List ℕ) → Type 0
 IsIdentifierOf new identifier = (new ≡ identifier) ⊎ (new ≡ hyphen ∷ identifier)
@@ -47,6 +51,13 @@ pub data RenamesIn (texts : List ℕ → Option OpenText) (old identifier : List
   renames_in : (uri t : List ℕ) (version : Option ℤ) (edits : List Data) → HasText texts uri t version →
       All (RenamesAt t old identifier) edits →
       RenamesIn texts old identifier (document_edits_form uri version edits)
+
+-- The members are edits of documents, each by its name, that do so.
+pub data RenamesEach (texts : List ℕ → Option OpenText) (old identifier : List ℕ) : Members → Type 0 where
+  renames_none : RenamesEach texts old identifier no_members
+  renames_one_more : (uri t : List ℕ) (version : Option ℤ) (edits : List Data) (others : Members) →
+      HasText texts uri t version → All (RenamesAt t old identifier) edits → RenamesEach texts old identifier others →
+      RenamesEach texts old identifier (put uri (array (items_of edits)) others)
 
 -- The message asks of a place in an open document where the old name is, and for a new name: the identifier.
 pub record AsksToRename (texts : List ℕ → Option OpenText) (d : Data) (old identifier : List ℕ) : Type 0 where
@@ -70,3 +81,5 @@ pub record AsksToRename (texts : List ℕ → Option OpenText) (d : Data) (old i
 pub data RenamesName (texts : List ℕ → Option OpenText) (d : Data) : Data → Type 0 where
   renames : (old identifier : List ℕ) (changes : List Data) → AsksToRename texts d old identifier →
       All (RenamesIn texts old identifier) changes → RenamesName texts d (renaming_form changes)
+  renames_by_name : (old identifier : List ℕ) (changes : Members) → AsksToRename texts d old identifier →
+      RenamesEach texts old identifier changes → RenamesName texts d (changes_form changes)

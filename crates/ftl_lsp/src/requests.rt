@@ -1,5 +1,6 @@
 //! What requests ask for.
 
+pub mod actions;
 pub mod candidates;
 pub mod completion;
 pub mod expected_names;

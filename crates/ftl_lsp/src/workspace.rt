@@ -3,6 +3,7 @@ ghost use Rattle.std.specs.Prelude.{◌≡◌};
 
 pub mod closed_files;
 pub mod file_sets;
+pub mod left_out;
 pub mod originals;
 pub mod others;
 pub mod settings;
@@ -12,6 +13,7 @@ use crate::documents::open_documents::OpenDocument;
 use crate::sessions::notices::Notice;
 use crate::workspace::closed_files::ClosedFile;
 use crate::workspace::file_sets::FileSet;
+use crate::workspace::left_out::{LeftOutFile, LeftOutReason};
 use crate::workspace::workspace_folder::WorkspaceFolder;
 use fluent_syntax_names::DefinedNames;
 use ftl_files::{
@@ -27,8 +29,8 @@ pub struct Workspace {
     folders: Vec<WorkspaceFolder>,
     /// The files, by their paths.
     files: BTreeMap<String, ClosedFile>,
-    /// The paths of files that were left out: they were not read, or nest too deeply.
-    left_out: Vec<String>,
+    /// The files that were left out: they were not read, or nest too deeply.
+    left_out: Vec<LeftOutFile>,
     /// Whether these, and those that were left out, are all files below the folders.
     is_whole: bool,
     /// The names that those of them define that are not open, by the keys of their sets, as far as they were looked up
@@ -114,17 +116,22 @@ impl Workspace {
             }
             let SourceFiles {
                 files: sources,
-                left_out: mut unread,
+                left_out: unread,
                 is_whole,
             } = read_files(alloc, files, folder.path.as_str(), &folder.excluded)?;
             all = all && is_whole;
-            left_out.append(&mut unread)?;
+            for path in unread {
+                left_out.push(LeftOutFile::unread(alloc, files, path)?)?;
+            }
             for file in sources {
                 let SourceFile { path, text } = file;
                 let before = self.files.remove(path.as_str());
                 match ClosedFile::read(alloc, before, path.as_str(), text)? {
                     Some(closed) => drop(found.insert(path, closed)?),
-                    None => left_out.push(path)?,
+                    None => left_out.push(LeftOutFile {
+                        path,
+                        reason: LeftOutReason::TooDeep,
+                    })?,
                 }
             }
         }
@@ -140,22 +147,27 @@ impl Workspace {
     fn add_left_out(
         &self,
         alloc: Global,
-        left_out: &[String],
+        left_out: &[LeftOutFile],
         notices: &mut Vec<Notice>,
     ) -> Result<(), AllocError> {
-        for path in left_out {
-            let path = path.as_str();
-            if !self.leaves_out(path) {
+        for file in left_out {
+            let path = file.path.as_str();
+            if self.left_out_reason(path).is_none() {
                 let shown = String::from_str(alloc, self.display_path(path))?;
-                add_notice(notices, Notice::LeftOut(shown))?;
+                add_notice(notices, Notice::LeftOut(shown, file.reason))?;
             }
         }
         Ok(())
     }
 
-    /// Whether the file at the path was left out.
-    pub fn leaves_out(&self, path: &str) -> bool {
-        self.left_out.iter().any(|left| left.as_str() == path)
+    /// Why the file at the path was left out, if it was.
+    pub fn left_out_reason(&self, path: &str) -> Option<LeftOutReason> {
+        for file in &self.left_out {
+            if file.path.as_str() == path {
+                return Some(file.reason);
+            }
+        }
+        None
     }
 
     /// Whether all files are known that may define what a file at the path refers to: it is below one of the
@@ -165,7 +177,7 @@ impl Workspace {
         let mut left_out = self.left_out.iter();
         self.is_whole
             && self.covers(path)
-            && !left_out.any(|left| self.set_by_language(left.as_str()) == set)
+            && !left_out.any(|file| self.set_by_language(file.path.as_str()) == set)
     }
 
     /// Whether files are looked for where the path is, below one of the folders.

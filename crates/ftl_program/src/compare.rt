@@ -1,5 +1,6 @@
 //! Files and folders, compared with those of a reference language.
 
+use crate::additions::{Met, add_to_pairs, addition_of};
 use crate::colors::form_over_paths;
 use crate::counterparts::{Counterparts, counterparts_of};
 use crate::file_sets::languages_of;
@@ -7,13 +8,14 @@ use crate::ignored::IgnoredRules;
 use crate::lint::report_no_reference;
 use crate::listed::{Named, NamedFiles, listing_at, report_note};
 use crate::messages::{WRONG_ARGS, end_run, refuse_input, report_nothing_to_compare, run_status};
+use crate::pairs::{Paired, pairs_of};
 use crate::project::{Project, ProjectPaths, projects_of};
 use ftl::{RunFault, Watched};
 use ftl_args::{Compare, Options};
 use ftl_files::{Disk, Form};
 use ftl_project::{
-    CompareOptions, Pair, Presence, Share, Streams, Tally, check_summary, compare_files, note_line,
-    share_json, share_line,
+    AddOptions, Addition, CompareOptions, Pair, Share, Streams, Tally, add_summary, check_summary,
+    compare_files, note_line, share_json, share_line,
 };
 use std::alloc::{AllocError, Global};
 use std::io;
@@ -83,12 +85,12 @@ fn compare_in(
 ) -> Result<u8, RunFault> {
     let counterparts = counterparts_of(rt, project, paths)?;
     let options = compare.options.or(&project.settings);
-    let mut tally = Tally::new();
+    let mut met = Met::new();
     if counterparts.is_empty() && (project.settings.reference.is_none() || paths.is_empty()) {
         if !has_languages(rt.alloc(), project)? {
             return Ok(report_nothing_to_compare(rt));
         }
-        report_no_language(rt, project, form_over_paths(rt, options), &mut tally)?;
+        report_no_language(rt, project, form_over_paths(rt, options), &mut met.tally)?;
     }
     let Ok(ignored) = IgnoredRules::new(rt.alloc(), project, &compare.ignored) else {
         return Err(RunFault::Memory);
@@ -98,9 +100,15 @@ fn compare_in(
         project,
         options,
         ignored: &ignored,
+        addition: addition_of(compare.addition),
     };
-    comparison.compare_all(&counterparts, &mut tally)?;
-    let status = end_run(rt, &tally, check_summary(rt.alloc(), &tally));
+    comparison.compare_all(&counterparts, &mut met)?;
+    let Met { tally, counts } = &met;
+    let summary = match comparison.addition {
+        Some(addition) => add_summary(rt.alloc(), tally, counts, addition),
+        None => check_summary(rt.alloc(), tally),
+    };
+    let status = end_run(rt, tally, summary);
     Ok(status.max(tally.warnings_status(compare.denies_warnings)))
 }
 
@@ -133,6 +141,8 @@ struct Comparison<'p> {
     options: Options,
     /// What is not reported.
     ignored: &'p IgnoredRules,
+    /// What becomes of what is missing; None where it is reported.
+    addition: Option<Addition>,
 }
 
 impl Comparison<'_> {
@@ -143,11 +153,7 @@ impl Comparison<'_> {
 
     /// Compares each file or folder, once, with its counterpart. What can't be listed, and a file where the other one
     /// is a folder, or the other way round, is reported, and the others are compared.
-    fn compare_all(
-        &self,
-        counterparts: &[Counterparts],
-        tally: &mut Tally,
-    ) -> Result<(), RunFault> {
+    fn compare_all(&self, counterparts: &[Counterparts], met: &mut Met) -> Result<(), RunFault> {
         let form = self.form();
         let mut named = NamedFiles::new(self.rt, self.project, form);
         let mut last = "";
@@ -157,18 +163,16 @@ impl Comparison<'_> {
                 continue;
             }
             if !counterpart.has_reference {
-                self.compare_other(counterpart, None, tally)?;
+                self.compare_other(counterpart, None, met)?;
                 continue;
             }
             let reference = counterpart.reference.as_str();
             if listed.is_none() || reference != last {
-                listed = Some(listing_at(self.rt, self.project, reference, form, tally)?);
+                listed = Some(listing_at(self.rt, self.project, reference, form, &mut met.tally)?);
                 last = reference;
             }
             match &listed {
-                Some(own) if !own.has_failed => {
-                    self.compare_other(counterpart, Some(own), tally)?
-                }
+                Some(own) if !own.has_failed => { self.compare_other(counterpart, Some(own), met)? }
                 _ => (),
             }
         }
@@ -180,11 +184,11 @@ impl Comparison<'_> {
         &self,
         counterpart: &Counterparts,
         own: Option<&Named>,
-        tally: &mut Tally,
+        met: &mut Met,
     ) -> Result<(), RunFault> {
         let rt = self.rt;
         let (reference, other) = (counterpart.reference.as_str(), counterpart.other.as_str());
-        let named = listing_at(rt, self.project, other, self.form(), tally)?;
+        let named = listing_at(rt, self.project, other, self.form(), &mut met.tally)?;
         if named.has_failed {
             return Ok(());
         }
@@ -193,54 +197,37 @@ impl Comparison<'_> {
         }
         let own_files = match own {
             Some(own) if named.is_file != own.is_file => {
-                tally.add_fault(WRONG_ARGS);
+                met.tally.add_fault(WRONG_ARGS);
                 return report_other_kind(rt, reference, own.is_file, other);
             }
             Some(own) => own.files.as_slice(),
             None => &[],
         };
-        let Ok(pairs) = self.pairs_of(reference, own_files, other, &named.files) else {
+        let Ok(mut pairs) = pairs_of(
+            rt.alloc(),
+            self.ignored,
+            Paired {
+                reference,
+                reference_files: own_files,
+                other,
+                other_files: &named.files,
+            },
+        ) else {
             return Err(RunFault::Memory);
         };
-        self.compare_pairs(other, &pairs, tally)
-    }
-
-    /// The files of the reference with those of the other of the same path below, or the two files that are named; and
-    /// after them those that the other alone has. What is not reported of a pair is what the rules of the other say.
-    fn pairs_of(
-        &self,
-        reference: &str,
-        reference_files: &[String],
-        other: &str,
-        other_files: &[String],
-    ) -> Result<Vec<Pair<'_>>, AllocError> {
-        let alloc = self.rt.alloc();
-        let wanted = names_below(alloc, reference, reference_files)?;
-        let there = names_below(alloc, other, other_files)?;
-        let mut pairs = Vec::new(alloc);
-        for (file, name) in reference_files.iter().zip(&wanted) {
-            let other = path_below(alloc, other, *name)?;
-            pairs.push(Pair {
-                ignored: self.ignored.at(alloc, other.as_str())?,
-                reference: String::from_str(alloc, file.as_str())?,
-                other,
-                presence: match there.binary_search(name) {
-                    Ok(_) => Presence::Both,
-                    Err(_) => Presence::ReferenceAlone,
+        match self.addition {
+            Some(addition) => add_to_pairs(
+                rt,
+                self.form(),
+                &mut pairs,
+                AddOptions {
+                    reading: self.options.reading(),
+                    addition,
                 },
-            })?;
+                met,
+            ),
+            None => self.compare_pairs(other, &pairs, &mut met.tally),
         }
-        for (file, name) in other_files.iter().zip(&there) {
-            if wanted.binary_search(name).is_err() {
-                pairs.push(Pair {
-                    reference: path_below(alloc, reference, *name)?,
-                    other: String::from_str(alloc, file.as_str())?,
-                    presence: Presence::OtherAlone,
-                    ignored: self.ignored.at(alloc, file.as_str())?,
-                })?;
-            }
-        }
-        Ok(pairs)
     }
 
     /// Compares the pairs of one language, and reports how much of it is there.
@@ -314,32 +301,4 @@ fn report_other_kind(
         Err(AllocError) => return Err(RunFault::Memory),
     }
     Ok(())
-}
-
-/// The paths of the files below the folder.
-fn names_below<'f>(
-    alloc: Global,
-    folder: &str,
-    files: &'f [String],
-) -> Result<Vec<&'f str>, AllocError> {
-    files
-        .iter()
-        .map(|file| below(folder, file.as_str()))
-        .collect(alloc)
-}
-
-/// The path of the file below the folder; none of the file itself.
-fn below<'a>(folder: &str, file: &'a str) -> &'a str {
-    file.strip_prefix(folder)
-        .unwrap_or(file)
-        .trim_start_matches('/')
-}
-
-/// The path of the name below the folder; the folder itself without a name.
-fn path_below(alloc: Global, folder: &str, name: &str) -> Result<String, AllocError> {
-    if name.is_empty() {
-        return String::from_str(alloc, folder);
-    }
-    let folder = folder.trim_end_matches('/');
-    format!(in alloc; "{folder}/{name}")
 }

@@ -1,6 +1,7 @@
 //! `ftl`: checks, formats and converts Fluent Translation Lists, files and folders or standard input.
 #![tactic(auto)]
 
+mod additions;
 mod args;
 mod colors;
 mod compare;
@@ -11,6 +12,7 @@ mod ignored;
 mod lint;
 mod listed;
 mod messages;
+mod pairs;
 mod paths;
 mod project;
 mod standard_input;

@@ -23,7 +23,7 @@ use Rattle.ftl_files.specs.declared.options.BlankLines.{BlankLines}
 use Rattle.ftl_files.specs.declared.options.BlankLines.TheVariants.{Keep, Normal}
 use Rattle.ftl_project.proofs.Statuses.{status_of_fault_is_at_least_three}
 use Rattle.ftl_project.proofs.Reaching.{AllReach-rewrites, AllReach-untouched, AllReach-trans}
-use Rattle.ftl_project.proofs.Reaching.{file_that_becomes_rewriting_reaches_it}
+use Rattle.ftl_project.proofs.Reaching.{file_that_becomes_next_reaches_it}
 use Rattle.ftl_project.specs.Errors.{IsRefused}
 use Rattle.ftl_project.specs.Faults.{Failing, IsRead}
 use Rattle.ftl_project.specs.Formatting.{AllNormal, FormatsEach, IsProcessed, IsNormal}
@@ -172,7 +172,8 @@ rewritten_file_is_normal : (CallFails : Failing) (options : FormatOptions) (path
 rewritten_file_is_normal CallFails options path old new (replacement.Text text) bytes t a (read, is_read, that, puts)
     is =
     file_becomes_rewritten_text options bytes t a (old path) (new path) is
-    (file_that_becomes_rewriting_reaches_it options (old path) (new path) read (string_bytes text) is_read that.0
+    (file_that_becomes_next_reaches_it (IsRewriting options) (old path) (new path) read (string_bytes text) is_read
+    that.0
     puts.0)
 rewritten_file_is_normal CallFails options path old new replacement.Same bytes t a (read, is_read, that, untouched) is =
     untouched path ∙ ⊎_elim
@@ -221,9 +222,9 @@ no_fault_at_start CallFails options (file ∷ files) old new before after (now, 
 AllReach-each : (CallFails : Failing) (options : FormatOptions) (files : List (String Global))
     (old new : List ℕ → Option (List ℕ)) (before after : Tally) →
     FormatsEach CallFails options files old new before after → AllReach options old new
-AllReach-each CallFails options [] old new before after each = AllReach-untouched options old new each.0
+AllReach-each CallFails options [] old new before after each = AllReach-untouched (IsRewriting options) old new each.0
 AllReach-each CallFails options (file ∷ files) old new before after (now, between, formats, rest) =
-    AllReach-trans options old now new
+    AllReach-trans (IsRewriting options) old now new
     (AllReach-rewrites CallFails options (string_bytes file) old now formats.0 formats.1)
     (AllReach-each CallFails options files now new between after rest)
 
@@ -251,6 +252,7 @@ AllNormal-each CallFails options (file ∷ files) start old new before after rea
     (λ bytes t e a. rewritten_file_stays_rewritten options bytes t a (now path) (new path)
     (beyond path) (rewritten_file_is_normal CallFails options path old now ok.0 bytes t a rewrites
     (reached_file_is_old_or_rewritten options bytes t a (start path) (old path) (reach path) (inl e)))))
-    (AllNormal-each CallFails options files start now new between after (AllReach-trans options start old now reach
+    (AllNormal-each CallFails options files start now new between after
+    (AllReach-trans (IsRewriting options) start old now reach
     step) rest
     none)

@@ -1,3 +1,4 @@
+pub mod Adding
 pub mod Answered
 pub mod Comparing
 pub mod Differences

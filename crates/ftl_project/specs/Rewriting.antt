@@ -84,12 +84,28 @@ FindsLossy reading bytes found = (replacement : Replacement)
     × IsReplacement (record { reading = reading; blank_lines = Normal }) bytes replacement
     × (found ≡ lossy_entry_of replacement)
 
+-- ---- what a file becomes whose bytes are replaced by such texts
+
+module _ (IsNext : (bytes text : List ℕ) → Type 0) where
+  -- where the bytes were known, such a text is there now
+  abbrev pub BecomesBy : (old new : Option (List ℕ)) → Type 0
+  BecomesBy None new = Unit {0}
+  BecomesBy (Some bytes) new = (text : List ℕ) × IsNext bytes text × (new ≡ Some text)
+
+  -- A file is as it was, or has become so what it is, once or more often where a run came to it so.
+  pub data ReachesBy : (old new : Option (List ℕ)) → Type 0 where
+    stays : {bytes : Option (List ℕ)} → ReachesBy bytes bytes
+    goes : {old now new : Option (List ℕ)} → ReachesBy old now → BecomesBy now new → ReachesBy old new
+
+  -- so does each file
+  abbrev pub AllReachBy : (old new : List ℕ → Option (List ℕ)) → Type 0
+  AllReachBy old new = (path : List ℕ) → ReachesBy (old path) (new path)
+
 -- ---- a file
 
 -- where the bytes were known, a rewriting of them is there now
 abbrev pub BecomesRewriting : FormatOptions → (old new : Option (List ℕ)) → Type 0
-BecomesRewriting options None new = Unit {0}
-BecomesRewriting options (Some bytes) new = (text : List ℕ) × IsRewriting options bytes text × (new ≡ Some text)
+BecomesRewriting options = BecomesBy (IsRewriting options)
 
 -- A text has come in the file's place, and no other file was touched; or all files are as they were.
 abbrev pub Puts : Replacement → (path : List ℕ) → (old new : List ℕ → Option (List ℕ)) → Type 0
@@ -108,12 +124,10 @@ Rewrites CallFails options path old new (Err fault) =
     × (IsFault CallFails (old path) (λ text. IsUnparsed (IsTooDeep options.reading text)) fault
     ⊎ IsUnwritten CallFails (old path) fault)
 
--- A file is as it was, or has become a rewriting of what it was, once or more often where a run came to it so.
-pub data Reaches (options : FormatOptions) : (old new : Option (List ℕ)) → Type 0 where
-  stays : {bytes : Option (List ℕ)} → Reaches options bytes bytes
-  goes : {old now new : Option (List ℕ)} → Reaches options old now → BecomesRewriting options now new →
-      Reaches options old new
+-- A file is as it was, or has become a rewriting of what it was, once or more often.
+abbrev pub Reaches : FormatOptions → (old new : Option (List ℕ)) → Type 0
+Reaches options = ReachesBy (IsRewriting options)
 
 -- so does each file
 abbrev pub AllReach : FormatOptions → (old new : List ℕ → Option (List ℕ)) → Type 0
-AllReach options old new = (path : List ℕ) → Reaches options (old path) (new path)
+AllReach options = AllReachBy (IsRewriting options)

@@ -62,9 +62,9 @@ struct PairComparison {
 
 /// Why a pair was not compared: the file of that side was not answered.
 #[derive(Drop)]
-struct PairFault {
-    side: Side,
-    fault: Fault,
+pub(crate) struct PairFault {
+    pub(crate) side: Side,
+    pub(crate) fault: Fault,
 }
 
 impl From<AllocError> for PairFault {
@@ -449,7 +449,11 @@ impl Comparing<'_> {
 }
 
 /// The text of the file of this side.
-fn side_text<S: Store>(store: &mut S, side: Side, path: &str) -> Result<String, PairFault>
+pub(crate) fn side_text<S: Store>(
+    store: &mut S,
+    side: Side,
+    path: &str,
+) -> Result<String, PairFault>
     ensures text { IfOk result (λ text. IsRead (S.bytes_at store.old path.now) (string_bytes text)) }
     ensures fault { IfErr result (λ fault. (fault.side ≡ side)
         × IsUnread S.fails (S.bytes_at store.old path.now) fault.fault) }

@@ -1,6 +1,7 @@
 //! Runs over the files of a project: they are checked, or formatted in place.
 #![tactic(auto)]
 
+mod adding;
 mod answering;
 mod comparing;
 mod fault;
@@ -12,6 +13,7 @@ mod reporting;
 mod streams;
 mod tally;
 
+pub use adding::{AddCounts, AddOptions, Addition, add_missing, add_summary};
 pub use answering::checking::CheckTask;
 pub use answering::converting::ConvertTask;
 pub use answering::printing::PrintTask;

@@ -10,6 +10,7 @@ ghost use Rattle.ftl_lsp.specs.DiagnosticForms.{reported_kind, severity_number, 
 use crate::diagnostics::{Diagnostic, RelatedNote};
 use crate::documents::positions::{Position, PositionRange};
 use crate::sessions::replies::range_form;
+use crate::workspace::left_out::LeftOutReason;
 use fluent_syntax_names::{Difference, Kind, Severity};
 use ftl_files::{Levels, ReportedKind};
 use serde_json::{Value, json};
@@ -206,24 +207,21 @@ pub fn count_list(alloc: Global, more: usize) -> Result<Vec<Value>, AllocError>
 }
 
 /// The diagnostic of a document whose file is left out, if it is. `AllocError` where a growth was refused.
-pub fn left_out_list(alloc: Global, is_left_out: bool) -> Result<Vec<Value>, AllocError>
+pub fn left_out_list(alloc: Global, reason: Option<LeftOutReason>) -> Result<Vec<Value>, AllocError>
     ensures { IfOk result (λ list. All IsLintDiagnostic (map view list.items)) }
 {
     let mut list = Vec::new(alloc);
-    if is_left_out {
-        list.push(left_out_form(alloc)?)?;
+    if let Some(reason) = reason {
+        list.push(left_out_form(alloc, reason)?)?;
     }
     Ok(list)
 }
 
-fn left_out_form(alloc: Global) -> Result<Value, AllocError>
+fn left_out_form(alloc: Global, reason: LeftOutReason) -> Result<Value, AllocError>
     ensures { IfOk result (λ value. IsLintDiagnostic (view value)) }
 {
-    warning_at_begin(
-        alloc,
-        "left-out",
-        "the file is not UTF-8, too long or can't be read, so undefined names of its language are not reported",
-    )
+    let message = reason.sentence(alloc, "the file")?;
+    warning_at_begin(alloc, "left-out", message.as_str())
 }
 
 fn warning_at_begin(alloc: Global, code: &str, message: &str) -> Result<Value, AllocError>

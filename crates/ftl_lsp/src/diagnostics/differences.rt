@@ -142,7 +142,7 @@ fn extra_of<'u>(
 }
 
 /// What is reported of a part that the file of this side has and the other one lacks.
-fn reported_difference(
+pub fn reported_difference(
     ignored: &[IgnoreRule],
     side: Side,
     own: &CommentRules<'_, '_>,

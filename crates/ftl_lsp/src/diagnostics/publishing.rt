@@ -18,7 +18,8 @@ use crate::sessions::replies::diagnostics_notification;
 use crate::sessions::server::Server;
 use crate::workspace::Workspace;
 use crate::workspace::file_sets::FileSet;
-use crate::workspace::originals::original_at;
+use crate::workspace::left_out::LeftOutReason;
+use crate::workspace::originals::{Original, original_at};
 use crate::workspace::others::{look_up_others, name_indexes_of, others_of};
 use fluent_syntax_names::{
     Finding, NameIndex, findings_in_language, local_findings_in_language, shown_name,
@@ -91,7 +92,7 @@ impl Server {
         let shown = all.len().min(room);
         let first = all.get(..shown).unwrap_or(&[]);
         let mut list = lint_diagnostic_list(self.alloc, first, self.related, self.levels_of(open))?;
-        let mut left_out = left_out_list(self.alloc, self.is_left_out(open))?;
+        let mut left_out = left_out_list(self.alloc, self.left_out_reason(open))?;
         list.append(&mut left_out)?;
         Ok((list, all.len() - shown))
     }
@@ -111,22 +112,23 @@ impl Server {
         let Some(there) = self.workspace.original_of(self.alloc, path.as_str())? else {
             return Ok(none);
         };
-        let (documents, files) = (self.documents.by_name(), self.workspace.files());
-        let found = original_at(self.alloc, there.as_str(), documents, files)?;
-        let Some(original) = found else {
+        let Some(original) = self.linted_original(there.as_str())? else {
             return Ok(none);
         };
-        if original.name_index.text.len() > FINDINGS_LIMIT {
-            return Ok(none);
-        }
         let shown = self.workspace.display_path(there.as_str());
         differences_of(self.alloc, comments, &original, shown, ignored)
     }
 
-    /// Whether the document's file is left out where names are looked for.
-    fn is_left_out(&self, open: &OpenDocument) -> bool {
-        let path = open.path.as_deref();
-        path.is_some_and(|path| self.workspace.leaves_out(path))
+    /// The original at the path. None where there is none, or it is too long.
+    pub(crate) fn linted_original(&self, there: &str) -> Result<Option<Original<'_>>, AllocError> {
+        let (documents, files) = (self.documents.by_name(), self.workspace.files());
+        let found = original_at(self.alloc, there, documents, files)?;
+        Ok(found.filter(|original| original.name_index.text.len() <= FINDINGS_LIMIT))
+    }
+
+    /// Why the document's file is left out where names are looked for, if it is.
+    pub(crate) fn left_out_reason(&self, open: &OpenDocument) -> Option<LeftOutReason> {
+        self.workspace.left_out_reason(open.path.as_deref()?)
     }
 
     /// How grave what is reported of a document is.
@@ -136,7 +138,7 @@ impl Server {
     }
 
     /// What is not reported of a document.
-    fn ignored_of(&self, open: &OpenDocument) -> Result<Vec<IgnoreRule>, AllocError> {
+    pub(crate) fn ignored_of(&self, open: &OpenDocument) -> Result<Vec<IgnoreRule>, AllocError> {
         match &open.path {
             Some(path) => self.workspace.ignored_at(self.alloc, path.as_str()),
             None => Ok(Vec::new(self.alloc)),
@@ -144,7 +146,7 @@ impl Server {
     }
 
     /// What is found in a document, but for this and what its comments leave out.
-    fn reported_findings(
+    pub(crate) fn reported_findings(
         &self,
         uri: &str,
         open: &OpenDocument,
@@ -224,6 +226,6 @@ fn is_reported(ignored: &[IgnoreRule], comments: &CommentRules<'_, '_>, finding:
 }
 
 /// Whether the findings of a document are sought, which takes the longer the longer it is.
-fn is_linted(document: &Document) -> bool {
+pub(crate) fn is_linted(document: &Document) -> bool {
     document.text().len() <= FINDINGS_LIMIT && !document.is_too_deep()
 }

@@ -13,7 +13,8 @@ use std::alloc::AllocError;
 
 impl Server {
     /// Notes which documents are stale after a notification of the method, since other findings may be in them now:
-    /// all that are open in the workspace, but for the one that it names; where folders come and go, all that are open.
+    /// all that are open in the workspace, but for the one that it names; where folders come and go, or files changed,
+    /// all that are open, since the workspace itself may be another.
     pub(crate) fn mark_stale(
         &mut self,
         method: Option<Method>,
@@ -22,8 +23,7 @@ impl Server {
         ensures { OnOk result (session_of self.new ≡ session_of self.old) }
     {
         if affects_others(method) {
-            let everywhere = method == Some(Method::DidChangeWorkspaceFolders);
-            self.stale = self.other_open_documents(uri_of(message), everywhere)?;
+            self.stale = self.other_open_documents(uri_of(message), affects_workspace(method))?;
         }
         Ok(())
     }
@@ -69,6 +69,14 @@ impl Server {
             None => Ok(None),
         }
     }
+}
+
+/// Whether a notification may change which files are in the workspace: its folders, or the settings there.
+fn affects_workspace(method: Option<Method>) -> bool {
+    matches!(
+        method,
+        Some(Method::DidChangeWatchedFiles | Method::DidChangeWorkspaceFolders)
+    )
 }
 
 /// Whether a notification may change what is found in documents that it doesn't name.

@@ -88,13 +88,24 @@ pub fn entry_range_at(text: &str, body: &[Entry<Span>], byte: usize) -> Option<S
 /// or a `#`. So it is also found while the entry is typed.
 pub fn entry_line_start(text: &[u8], byte: usize) -> usize {
     for before in (0..byte.min(text.len())).rev() {
-        if text[before] == b'\n' {
-            if let Some(first) = text.get(before + 1) {
-                if first.is_ascii_alphabetic() || matches!(*first, b'-' | b'#') {
-                    return before + 1;
-                }
-            }
+        if text[before] == b'\n' && may_begin_entry(text, before + 1) {
+            return before + 1;
         }
     }
     0
+}
+
+/// Where the first line after the byte begins that may begin an entry, or the text's end.
+pub fn next_entry_line_start(text: &[u8], byte: usize) -> usize {
+    for before in byte..text.len() {
+        if text[before] == b'\n' && may_begin_entry(text, before + 1) {
+            return before + 1;
+        }
+    }
+    text.len()
+}
+
+/// Whether the byte may begin an entry.
+fn may_begin_entry(text: &[u8], at: usize) -> bool {
+    text.get(at).is_some_and(|first| first.is_ascii_alphabetic() || matches!(*first, b'-' | b'#'))
 }

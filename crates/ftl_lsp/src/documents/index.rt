@@ -167,17 +167,16 @@ impl IndexedDocument<'_> {
         }
     }
 
-    /// The name at the byte, or that ends there; of two the one that begins there. None where there is none.
+    /// The name at the byte, or that ends there, or whose mark is there; of two the first. None where there is none.
     pub fn name_at(&self, byte: usize) -> Option<Name<'_>>
         ensures { IfSome result (λ name. IsNameAt self.now.text.now byte (shown_of name)) }
     {
-        let mut found = None;
         for occurrence in self.occurrences() {
-            if occurrence.is_at(byte) {
-                found = Some(name_of(self.text, *occurrence));
+            if occurrence.is_at(self.text, byte) {
+                return Some(name_of(self.text, *occurrence));
             }
         }
-        found
+        None
     }
 
     /// The same name with its place, and whether it is defined there.
@@ -185,8 +184,7 @@ impl IndexedDocument<'_> {
         let occurrences = self.occurrences();
         occurrences
             .iter()
-            .rev()
-            .find(|occurrence| occurrence.is_at(byte))
+            .find(|occurrence| occurrence.is_at(self.text, byte))
             .copied()
     }
 

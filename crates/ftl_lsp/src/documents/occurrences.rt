@@ -1,6 +1,6 @@
 //! The names in a text, each where it is.
-ghost use Rattle.std.specs.Prelude.{◌≡◌, ◌&&◌, nat_le, true};
-ghost use Rattle.ftl_lsp.specs.Occurrences.{IsCut, shown_of, span_of};
+ghost use Rattle.std.specs.Prelude.{◌≡◌, true};
+ghost use Rattle.ftl_lsp.specs.Occurrences.{IsAt, IsCut, IsMarked, is_mark, shown_of, span_of};
 
 use fluent_syntax::spans::Span;
 pub use fluent_syntax_grammar::lanes::is_name_byte;
@@ -49,13 +49,39 @@ impl Occurrence {
         }
     }
 
-    /// Whether it is at the byte or ends there.
-    pub fn is_at(&self, byte: usize) -> bool
-        ensures { let span = span_of self.now in result ≡ (nat_le span.start byte && nat_le byte span.end) }
+    /// Whether it is at the byte or ends there, or its mark is there.
+    pub fn is_at(&self, text: &str, byte: usize) -> bool
+        ensures { result ≡ true → IsAt text.now byte (span_of self.now) }
     {
         let span = self.span();
-        span.start <= byte && byte <= span.end
+        span.start <= byte && byte <= span.end || is_marked(text.as_bytes(), byte, span)
     }
+
+    /// Where it is, with the `-` of a term.
+    pub fn labelled_span(&self) -> Span {
+        let Span { start, end } = self.span();
+        match (self.kind, self.attribute) {
+            (NameKind::Term, None) => Span {
+                start: start.saturating_sub(1),
+                end,
+            },
+            _ => Span { start, end },
+        }
+    }
+}
+
+/// Whether the byte is a mark, right before the span.
+fn is_marked(text: &[u8], byte: usize, span: Span) -> bool
+    ensures { result ≡ true → IsMarked text.now byte span }
+{
+    byte < text.len() && byte + 1 == span.start && is_mark(text[byte])
+}
+
+/// Whether the byte is the `-` of a term, the `$` of a variable or the `.` of an attribute.
+fn is_mark(byte: u8) -> bool
+    ensures { result ≡ is_mark byte }
+{
+    byte == b'-' || byte == b'$' || byte == b'.'
 }
 
 /// What a name is one of, and its text: where these are the same, the names mean the same.

@@ -33,14 +33,17 @@ struct Candidate {
 #[derive(Drop)]
 pub struct Candidates {
     alloc: Global,
+    /// How the lines of the document end.
+    line_end: &'static str,
     by_label: BTreeMap<String, Candidate>,
 }
 
 impl Candidates {
-    /// None.
-    pub fn new(alloc: Global) -> Self {
+    /// None, for a document of that text.
+    pub fn new(alloc: Global, text: &str) -> Self {
         Candidates {
             alloc,
+            line_end: line_end_of(text),
             by_label: BTreeMap::new(alloc),
         }
     }
@@ -69,7 +72,8 @@ impl Candidates {
         Ok(())
     }
 
-    /// Offers a name in whose place a text is inserted. `AllocError` where a growth was refused.
+    /// Offers a name in whose place a text is inserted, with the line ends of the document in place of its own.
+    /// `AllocError` where a growth was refused.
     pub fn offer_text(
         &mut self,
         label: &str,
@@ -79,7 +83,7 @@ impl Candidates {
         let candidate = Candidate {
             kind,
             rank: 0,
-            inserted: Some(String::from_str(self.alloc, inserted)?),
+            inserted: Some(with_line_ends(self.alloc, inserted, self.line_end)?),
         };
         let label = String::from_str(self.alloc, label)?;
         drop(self.by_label.insert(label, candidate)?);
@@ -130,6 +134,26 @@ fn item_form(
             })
         }
     }
+}
+
+/// How the first line of the text ends; as LF where there is but one.
+fn line_end_of(text: &str) -> &'static str {
+    match text.split_once('\n') {
+        Some((line, _)) if line.ends_with('\r') => "\r\n",
+        _ => "\n",
+    }
+}
+
+/// The lines of a text, with such line ends between them.
+fn with_line_ends(alloc: Global, text: &str, line_end: &str) -> Result<String, AllocError> {
+    let mut out = String::new(alloc);
+    for (number, line) in text.lines().enumerate() {
+        if number > 0 {
+            out.push_str(line_end)?;
+        }
+        out.push_str(line)?;
+    }
+    Ok(out)
 }
 
 /// A name as it is written where it is referred to or used, without its attribute. `AllocError` where a growth was

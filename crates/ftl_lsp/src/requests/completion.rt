@@ -1,10 +1,16 @@
 //! The names that may be at a place.
 
+use crate::documents::entry_ranges::entry_line_start;
 use crate::documents::index::IndexedDocument;
-use crate::documents::occurrences::{NameKind, Occurrence, name_of};
+use crate::documents::occurrences::{NameKind, Occurrence, bytes_of, name_of};
 use crate::requests::candidates::{CandidateKind, Candidates, label_of};
-use crate::requests::expected_names::{Expected, begin_of_name, entry_name_at, expected_at};
-use crate::requests::original_names::{add_attributes, add_entries, add_keys, add_variables};
+use crate::requests::expected_names::{
+    Expected, begin_of_name, end_of_name, entry_name_at, expected_at,
+};
+use crate::requests::nesting::other_keys;
+use crate::requests::original_names::{
+    add_attributes, add_entries, add_functions, add_keys, add_variables,
+};
 use crate::requests::request_context::RequestContext;
 use fluent_syntax::spans::Span;
 use serde_json::Value;
@@ -18,16 +24,16 @@ pub fn completion(alloc: Global, context: &RequestContext<'_>) -> Result<Value, 
     let Some(here) = context.here() else {
         return Ok(Value::Array(Vec::new(alloc)));
     };
-    let end = context.byte;
-    let begin = begin_of_name(here.text.as_bytes(), end);
+    let begin = begin_of_name(here.text.as_bytes(), context.byte);
+    let end = end_of_name(here.text, context.byte);
     let expected = expected_at(alloc, here.text, begin, end)?;
-    let mut candidates = Candidates::new(alloc);
+    let mut candidates = Candidates::new(alloc, here.text);
     add_of_original(alloc, &mut candidates, context, here, expected)?;
     for document in &context.documents {
         let is_here = document.uri == here.uri;
         for occurrence in document.occurrences() {
             // what is typed is itself no name to offer
-            if !(is_here && occurrence.is_at(end)) {
+            if !(is_here && occurrence.is_at(here.text, context.byte)) {
                 add_name(
                     alloc,
                     &mut candidates,
@@ -40,6 +46,9 @@ pub fn completion(alloc: Global, context: &RequestContext<'_>) -> Result<Value, 
         }
     }
     add_given(alloc, &mut candidates, context, here, expected)?;
+    if let Expected::VariantKeys = expected {
+        withdraw_keys(alloc, &mut candidates, here.text, begin)?;
+    }
     let start = match expected {
         Expected::Variables => begin.saturating_sub(1),
         _ => begin,
@@ -64,6 +73,10 @@ fn add_of_original(
         Expected::Attributes => add_attributes(alloc, candidates, here, original, entry),
         Expected::VariantKeys => add_keys(alloc, candidates, original, entry),
         Expected::Variables => add_variables(alloc, candidates, original, entry),
+        Expected::References => {
+            add_variables(alloc, candidates, original, entry)?;
+            add_functions(alloc, candidates, original)
+        }
         _ => Ok(()),
     }
 }
@@ -87,7 +100,7 @@ fn add_name(
             }
             return Ok(());
         }
-        (Expected::Variables, NameKind::Variable, None) => {
+        (Expected::Variables | Expected::References, NameKind::Variable, None) => {
             (CandidateKind::Variable, if is_here { 1 } else { 2 })
         }
         (Expected::References | Expected::Terms, NameKind::Term, None) if defines => {
@@ -123,6 +136,20 @@ fn add_given(
             }
         }
         _ => {}
+    }
+    Ok(())
+}
+
+/// Offers no more the keys that the select has already in which the key is that begins there.
+fn withdraw_keys(
+    alloc: Global,
+    candidates: &mut Candidates,
+    text: &str,
+    begin: usize,
+) -> Result<(), AllocError> {
+    let entry = entry_line_start(text.as_bytes(), begin);
+    for key in &other_keys(alloc, text.as_bytes(), entry, begin)? {
+        candidates.withdraw(bytes_of(text, *key).trim());
     }
     Ok(())
 }

@@ -16,7 +16,7 @@ pub enum Expected<'t> {
     VariantKeys,
     Variables,
     Terms,
-    /// Messages, terms and functions.
+    /// Messages, terms, variables and functions.
     References,
     /// The attributes of a message or term.
     AttributesOf(Name<'t>),
@@ -31,6 +31,12 @@ pub fn begin_of_name(text: &[u8], end: usize) -> usize {
         }
     }
     0
+}
+
+/// Where the name ends that goes on at the byte.
+pub fn end_of_name(text: &str, begin: usize) -> usize {
+    let rest = text.get(begin..).unwrap_or("");
+    begin.saturating_add(name_len(rest.as_bytes()))
 }
 
 /// The name of the message or term that the place is in, as far as its text shows that.
@@ -54,17 +60,17 @@ fn definition_name(label: &str) -> Name<'_> {
     }
 }
 
-/// What may come where the name begins that ends at the byte. Nothing within a string literal or a comment.
+/// What may be where the name is that begins and ends there. Nothing within a string literal or a comment.
 /// `AllocError` where a growth was refused.
 pub fn expected_at(
     alloc: Global,
     text: &str,
     begin: usize,
-    byte: usize,
+    end: usize,
 ) -> Result<Expected<'_>, AllocError> {
     let bytes = text.as_bytes();
     let line = start_of_line(bytes, begin);
-    let is_last = is_line_end(text, byte);
+    let is_last = is_line_end(text, end);
     if line == begin {
         return Ok(if is_last {
             Expected::Entries
@@ -80,7 +86,7 @@ pub fn expected_at(
     Ok(match levels_at(alloc, bytes, entry, begin)?.innermost() {
         None if is_last && before.trim_start_matches(' ') == "." => Expected::Attributes,
         Some(LevelKind::VariantKey) => Expected::VariantKeys,
-        Some(LevelKind::Placeable) => expected_in_placeable(text, begin, byte),
+        Some(LevelKind::Placeable) => expected_in_placeable(text, begin, end),
         _ => Expected::Nothing,
     })
 }
@@ -92,17 +98,17 @@ fn is_line_end(text: &str, byte: usize) -> bool {
 }
 
 /// The same in a placeable: an expression begins after a brace, a parenthesis, a comma or a colon.
-fn expected_in_placeable(text: &str, begin: usize, byte: usize) -> Expected<'_> {
+fn expected_in_placeable(text: &str, begin: usize, end: usize) -> Expected<'_> {
     let before = text.get(..begin).unwrap_or("");
     if before.ends_with('$') {
         return Expected::Variables;
     }
     if before.ends_with('.') {
-        let end = begin.saturating_sub(1);
-        let owner = text.get(begin_of_name(text.as_bytes(), end)..end);
+        let owner_end = begin.saturating_sub(1);
+        let owner = text.get(begin_of_name(text.as_bytes(), owner_end)..owner_end);
         return Expected::AttributesOf(definition_name(owner.unwrap_or("")));
     }
-    let is_term = text.get(begin..byte).unwrap_or("").starts_with('-');
+    let is_term = text.get(begin..end).unwrap_or("").starts_with('-');
     match before.trim_end().as_bytes().last() {
         Some(b'{' | b'(' | b',' | b':') if is_term => Expected::Terms,
         Some(b'{' | b'(' | b',' | b':') => Expected::References,

@@ -41,7 +41,8 @@ fn add_fold(
 }
 
 /// The comments and entries of several lines, and the placeables in these; and from each comment of a group on what
-/// comes before the next one; an empty one only ends a group. No entry and no group begins with the line of another fold.
+/// comes before the next one; an empty one only ends a group. No entry and no group begins with the line of another
+/// fold.
 pub fn folding_ranges_in(
     alloc: Global,
     document: &Document,

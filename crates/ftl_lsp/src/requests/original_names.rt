@@ -80,6 +80,21 @@ pub fn add_variables(
     Ok(())
 }
 
+/// Offers the functions that the original calls. `AllocError` where a growth was refused.
+pub fn add_functions(
+    alloc: Global,
+    candidates: &mut Candidates,
+    original: &IndexedDocument<'_>,
+) -> Result<(), AllocError> {
+    for occurrence in original.occurrences() {
+        let name = name_of(original.text, *occurrence);
+        if name.kind == NameKind::Function {
+            candidates.offer(label_of(alloc, name)?, CandidateKind::Function, 1)?;
+        }
+    }
+    Ok(())
+}
+
 /// Offers the keys of the entry's variants in the original. `AllocError` where a growth was refused.
 pub fn add_keys(
     alloc: Global,

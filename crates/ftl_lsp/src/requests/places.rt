@@ -95,14 +95,15 @@ impl Server {
         let Some(name) = new_name(message) else {
             return Ok(Err(ErrorCode::InvalidParams));
         };
-        match rename_edits(self.alloc, &context, name)? {
+        match rename_edits(self.alloc, &context, name, self.versioned)? {
             Ok(edits) => Ok(Ok(edits)),
             Err(fault) => Ok(Err(ErrorCode::Rename(fault))),
         }
     }
 }
 
-/// What a request of the method asks of a place; what is shown may be Markdown where the editor takes that. `AllocError` where a growth was refused.
+/// What a request of the method asks of a place; what is shown may be Markdown where the editor takes that.
+/// `AllocError` where a growth was refused.
 fn place_value(
     alloc: Global,
     method: Option<Method>,

@@ -4,12 +4,13 @@ ghost use Rattle.std.specs.List.{list_all};
 ghost use Rattle.fluent_syntax_grammar.specs.Bytes.{is_name_byte};
 ghost use Rattle.fluent_syntax_grammar.specs.Spellings.{is_name};
 ghost use Rattle.serde_json.specs.Data.{Data};
-ghost use Rattle.serde_json.specs.View.{view};
+ghost use Rattle.serde_json.specs.View.{members_view, view};
 ghost use Rattle.ftl_lsp.specs.Contexts.{IsContextOf};
 ghost use Rattle.ftl_lsp.specs.Occurrences.{shown_of};
 ghost use Rattle.ftl_lsp.specs.OpenDocuments.{OpenText};
 ghost use Rattle.ftl_lsp.specs.Params.{new_name_in};
-ghost use Rattle.ftl_lsp.specs.Renaming.{AsksToRename, IsIdentifierOf, RenamesAt, RenamesIn, RenamesName};
+ghost use Rattle.ftl_lsp.specs.Renaming.{AsksToRename, IsIdentifierOf, RenamesAt, RenamesEach, RenamesIn};
+ghost use Rattle.ftl_lsp.specs.Renaming.{RenamesName};
 
 use crate::documents::index::{IndexedDocument, OccurrenceFilter};
 use crate::documents::occurrences::{Name, NameKind, name_of};
@@ -17,14 +18,14 @@ use crate::documents::positions::Positions;
 use crate::requests::request_context::RequestContext;
 use crate::sessions::phases::RenameFault;
 use crate::sessions::replies::{
-    edit_form, edits_of_document, named_range_form, null, renaming_form,
+    changes_form, edit_form, edits_of_document, named_range_form, null, renaming_form,
 };
 use fluent_syntax_grammar::lanes::name_len;
-use serde_json::Value;
+use serde_json::{Map, Value};
 use std::alloc::{AllocError, Global};
 
 /// Whether the text is an identifier: a letter, then letters, digits, `_` and `-`.
-fn is_identifier(text: &str) -> bool
+pub(crate) fn is_identifier(text: &str) -> bool
     ensures { result ≡ is_name text.now }
 {
     match text.as_bytes() {
@@ -125,23 +126,67 @@ pub fn rename_range(alloc: Global, context: &RequestContext<'_>) -> Result<Value
 }
 
 /// The edits by which the name at the place has the new name in the documents and files of the set, none where it is
-/// its own; or why it can't have it. `AllocError` where a growth was refused.
+/// its own; or why it can't have it. Each document may be `versioned` where the editor takes that. `AllocError` where a
+/// growth was refused.
 pub fn rename_edits(
     alloc: Global,
     context: &RequestContext<'_>,
     new_name: &str,
+    versioned: bool,
 ) -> Result<Result<Value, RenameFault>, AllocError>
     ensures { (texts : List ℕ → Option OpenText) (d : Data) → IsContextOf texts d context.now →
         new_name_in d ≡ Some new_name.now →
         IfOk result (λ found. IfOk found (λ edits. RenamesName texts d (view edits))) }
 {
     match names_of(context, new_name) {
-        Ok((name, identifier)) => {
-            let changes = document_changes(alloc, context, name, identifier)?;
-            Ok(Ok(renaming_form(alloc, changes)?))
-        }
+        Ok((name, identifier)) => Ok(Ok(renaming(alloc, context, name, identifier, versioned)?)),
         Err(fault) => Ok(Err(fault)),
     }
+}
+
+/// The edits by which the name has the identifier, of documents in their versions or by their names.
+fn renaming(
+    alloc: Global,
+    context: &RequestContext<'_>,
+    name: Name<'_>,
+    identifier: &str,
+    versioned: bool,
+) -> Result<Value, AllocError>
+    ensures { (texts : List ℕ → Option OpenText) (d : Data) → IsContextOf texts d context.now →
+        AsksToRename texts d (shown_of name.entry) identifier.now →
+        IfOk result (λ edits. RenamesName texts d (view edits)) }
+{
+    if versioned {
+        renaming_form(alloc, document_changes(alloc, context, name, identifier)?)
+    } else {
+        changes_form(alloc, changes_by_name(alloc, context, name, identifier)?)
+    }
+}
+
+/// The edits of each document and file in which the name is, by their names; none where the identifier is its own.
+fn changes_by_name(
+    alloc: Global,
+    context: &RequestContext<'_>,
+    name: Name<'_>,
+    identifier: &str,
+) -> Result<Map<String, Value>, AllocError>
+    ensures { (texts : List ℕ → Option OpenText) (d : Data) → IsContextOf texts d context.now →
+        is_name (shown_of name.entry) ≡ true →
+        IfOk result (λ changes. RenamesEach texts (shown_of name.entry) identifier.now
+        (members_view changes.entries)) }
+{
+    let mut changes = Map::new(alloc);
+    if renamed_name(name, identifier) == name {
+        return Ok(changes);
+    }
+    for document in &context.documents {
+        let edits = edits_in(alloc, document, name, identifier)?;
+        if !edits.is_empty() {
+            let uri = String::from_str(alloc, document.uri)?;
+            drop(changes.insert(uri, Value::Array(edits))?);
+        }
+    }
+    Ok(changes)
 }
 
 /// The edits of each document and file in which the name is; none where the identifier is its own.

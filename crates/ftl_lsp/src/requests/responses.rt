@@ -21,7 +21,8 @@ use crate::requests::tokens::tokens_of;
 use crate::sessions::methods::Method;
 use crate::sessions::notices::Notice;
 use crate::sessions::params::{
-    positions_param, prepares_renaming, takes_hierarchy, takes_markdown, takes_related, uri_of,
+    positions_param, prepares_renaming, takes_hierarchy, takes_markdown, takes_related,
+    takes_versions, uri_of,
 };
 use crate::sessions::phases::ErrorCode;
 use crate::sessions::replies::{capabilities, null, token_list};
@@ -48,11 +49,15 @@ impl Server {
         match method {
             Some(Method::Initialize) => {
                 self.related = takes_related(message);
+                self.versioned = takes_versions(message);
                 self.markdown = takes_markdown(message);
                 self.hierarchy = takes_hierarchy(message);
                 self.workspace = Workspace::from_initialize(self.alloc, message)?;
                 Ok(Ok(capabilities(self.alloc, prepares_renaming(message))?))
             }
+            Some(Method::CodeAction) => Ok(
+                self.code_actions(message)?.ok_or(ErrorCode::InvalidParams),
+            ),
             Some(Method::WorkspaceSymbol) => Ok(Ok(self.workspace_symbols(message)?)),
             Some(Method::Rename) => self.rename(message),
             Some(Method::Formatting) => Ok(
@@ -131,7 +136,8 @@ impl Server {
         Ok(Some(formatting_edit(self.alloc, text, formatted.as_str())?))
     }
 
-    /// What the open documents and the closed files define whose name has the text that is asked for in it.
+    /// What the open documents and the closed files define whose name has the text that is asked for in it, a term's
+    /// with its `-`.
     fn workspace_symbols(&self, message: &Value) -> Result<Value, AllocError> {
         let query = message
             .pointer("/params/query")
@@ -143,8 +149,8 @@ impl Server {
         for document in &all {
             let mut positions = Positions::new(document.text);
             for occurrence in document.occurrences() {
-                let shown = bytes_of(document.text, occurrence.span());
-                if occurrence.defines && shown.contains(query) {
+                let label = bytes_of(document.text, occurrence.labelled_span());
+                if occurrence.defines && has_in_any_case(label, query) {
                     list.push(workspace_symbol(
                         self.alloc,
                         document,
@@ -158,7 +164,17 @@ impl Server {
     }
 }
 
-/// What a request of the method asks of a document; symbols are `grouped` where the editor takes that. `AllocError` where a growth was refused.
+/// Whether the query is in the text, in whichever case its ASCII letters are.
+fn has_in_any_case(text: &str, query: &str) -> bool {
+    let (text, query) = (text.as_bytes(), query.as_bytes());
+    query.is_empty()
+        || text
+            .windows(query.len())
+            .any(|part| part.eq_ignore_ascii_case(query))
+}
+
+/// What a request of the method asks of a document; symbols are `grouped` where the editor takes that. `AllocError`
+/// where a growth was refused.
 fn document_value(
     alloc: Global,
     method: Option<Method>,

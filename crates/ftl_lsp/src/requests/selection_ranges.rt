@@ -6,7 +6,7 @@ use crate::documents::entry_ranges::{entry_number_at, entry_range_of, own_start_
 use crate::documents::occurrences::bytes_of;
 use crate::documents::offsets::byte_of;
 use crate::documents::positions::Positions;
-use crate::requests::nesting::placeables_in;
+use crate::requests::nesting::steps_in;
 use crate::requests::symbols::symbol_of;
 use crate::sessions::replies::nested_range_form;
 use fluent_syntax::spans::Span;
@@ -36,7 +36,7 @@ pub fn selection_range_list(
 }
 
 /// The whole text, and in it the entry with its comment, the entry alone, its value or attribute, the pattern of that,
-/// the placeables and the word, as far as they are around the byte.
+/// the placeables with the variants in them, and the word, as far as they are around the byte.
 fn ranges_around(alloc: Global, document: &Document, byte: usize) -> Result<Vec<Span>, AllocError> {
     let (text, body) = (document.text(), document.body());
     let mut around = Vec::new(alloc);
@@ -58,14 +58,19 @@ fn ranges_around(alloc: Global, document: &Document, byte: usize) -> Result<Vec<
                 add_around(&mut around, pattern_in(text, *part), byte)?;
             }
         }
-        for placeable in placeables_in(alloc, text.as_bytes(), own)?.iter().rev() {
-            if placeable.start < byte && byte < placeable.end {
-                add_around(&mut around, *placeable, byte)?;
+        for step in steps_in(alloc, text.as_bytes(), own)?.iter().rev() {
+            if !is_at_edge_of_placeable(text.as_bytes(), *step, byte) {
+                add_around(&mut around, *step, byte)?;
             }
         }
     }
     add_around(&mut around, word_at(text, byte), byte)?;
     Ok(around)
+}
+
+/// Whether the range is a placeable, and the byte is where that begins or ends.
+fn is_at_edge_of_placeable(text: &[u8], span: Span, byte: usize) -> bool {
+    text.get(span.start) == Some(&b'{') && (byte == span.start || byte == span.end)
 }
 
 /// Adds a range, if the byte is in it, and it is in the last one and not the same.

@@ -27,8 +27,8 @@ pub fn symbol_list(alloc: Global, text: &str, symbols: &[Symbol]) -> Result<Valu
     Ok(Value::Array(list))
 }
 
-/// A symbol, with its attributes under it, and of a group its members. The places are asked for in the order of the text,
-/// so that it is read once.
+/// A symbol, with its attributes under it, and of a group its members. The places are asked for in the order of the
+/// text, so that it is read once.
 fn symbol_form(
     alloc: Global,
     text: &str,
@@ -97,8 +97,8 @@ fn attribute_form(alloc: Global, name: &str, range: PositionRange) -> Result<Val
     })
 }
 
-/// The number of a kind in the protocol: a constant for a message, a variable for a term, a property for an attribute, a
-/// namespace for a group.
+/// The number of a kind in the protocol: a constant for a message, a variable for a term, a property for an attribute,
+/// a namespace for a group.
 fn kind_number(kind: SymbolKind) -> u64 {
     match kind {
         SymbolKind::Message => 14,
@@ -134,11 +134,12 @@ pub fn workspace_symbol(
 ) -> Result<Value, AllocError> {
     let name = name_of(document.text, occurrence);
     let location = location_form(alloc, document.uri, positions, occurrence.span())?;
-    let (kind, shown) = match (name.attribute, name.kind) {
-        (Some(attribute), _) => (SymbolKind::Attribute, attribute),
-        (None, NameKind::Term) => (SymbolKind::Term, name.name),
-        (None, _) => (SymbolKind::Message, name.name),
+    let kind = match (name.attribute, name.kind) {
+        (Some(_), _) => SymbolKind::Attribute,
+        (None, NameKind::Term) => SymbolKind::Term,
+        (None, _) => SymbolKind::Message,
     };
+    let shown = bytes_of(document.text, occurrence.labelled_span());
     let number = kind_number(kind);
     let symbol = json!(in alloc; {"name": shown, "kind": number, "location": location})?;
     match name.attribute {

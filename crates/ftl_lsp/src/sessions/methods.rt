@@ -28,6 +28,7 @@ pub enum Method {
     DidChangeWorkspaceFolders,
     PrepareRename,
     SelectionRange,
+    CodeAction,
 }
 
 impl Method {
@@ -60,6 +61,7 @@ impl Method {
             "workspace/didChangeWorkspaceFolders" => Some(Method::DidChangeWorkspaceFolders),
             "textDocument/prepareRename" => Some(Method::PrepareRename),
             "textDocument/selectionRange" => Some(Method::SelectionRange),
+            "textDocument/codeAction" => Some(Method::CodeAction),
             _ => None,
         }
     }

@@ -6,6 +6,7 @@ ghost use Rattle.ftl_lsp.specs.Notices.{notice_form, sentence_of, severity_of};
 use crate::diagnostics::diagnostic_forms::severity_number;
 use crate::documents::open_documents::OpenDocument;
 use crate::workspace::Workspace;
+use crate::workspace::left_out::LeftOutReason;
 use fluent_syntax_names::Severity;
 use serde_json::{Value, json};
 use std::alloc::{AllocError, Global};
@@ -20,8 +21,8 @@ pub enum Notice {
     HasError(String, usize),
     /// What would be written does not read back.
     NotReadBack(String),
-    /// The file of this name is left out where names are looked for.
-    LeftOut(String),
+    /// The file of this name is left out where names are looked for, and why.
+    LeftOut(String, LeftOutReason),
     /// The `ftl.toml` of the folder can't be gone by, and why.
     WrongSettings(String, String),
 }
@@ -74,9 +75,7 @@ impl Notice {
             Notice::NotReadBack(name) => format!(in alloc;
                 "{name} is not formatted: what would be written does not read back"
             ),
-            Notice::LeftOut(name) => format!(in alloc;
-                "{name} is not UTF-8, too long or can't be read, so undefined names of its language are not reported"
-            ),
+            Notice::LeftOut(name, reason) => reason.sentence(alloc, name.as_str()),
             Notice::WrongSettings(folder, fault) => format!(in alloc; "{folder}/ftl.toml: {fault}"),
         }
     }

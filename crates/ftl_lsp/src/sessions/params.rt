@@ -7,7 +7,9 @@ ghost use Rattle.ftl_lsp.specs.Params.{version_in};
 
 use crate::documents::changes::position_of;
 use crate::documents::index::OccurrenceFilter;
+use crate::documents::offsets::byte_of;
 use crate::documents::positions::Position;
+use fluent_syntax::spans::Span;
 use serde_json::Value;
 
 /// Whether an editor that says this of itself takes related information of a diagnostic.
@@ -24,6 +26,14 @@ pub fn takes_markdown(message: &Value) -> bool {
         .pointer("/params/capabilities/textDocument/hover/contentFormat/0")
         .and_then(Value::as_str);
     format == Some("markdown")
+}
+
+/// Whether such an editor takes edits of documents in their versions.
+pub fn takes_versions(message: &Value) -> bool {
+    message
+        .pointer("/params/capabilities/workspace/workspaceEdit/documentChanges")
+        .and_then(Value::as_bool)
+        .unwrap_or(false)
 }
 
 /// Whether such an editor takes symbols in symbols.
@@ -117,4 +127,27 @@ pub fn new_name(message: &Value) -> Option<&str>
     ensures { option_map (λ name. name.now) result ≡ new_name_in (view message.now) }
 {
     message.pointer("/params/newName").and_then(Value::as_str)
+}
+
+/// The bytes of the text that a message asks of: all where it names no range.
+pub fn asked_span(message: &Value, text: &str) -> Span {
+    let start = message.pointer("/params/range/start").and_then(position_of);
+    let end = message.pointer("/params/range/end").and_then(position_of);
+    Span {
+        start: start.map_or(0, |position| byte_of(text, position)),
+        end: end.map_or(text.len(), |position| byte_of(text, position)),
+    }
+}
+
+/// Whether a request asks for what mends mistakes, among others or by itself.
+pub fn wants_mending(message: &Value) -> bool {
+    let only = message
+        .pointer("/params/context/only")
+        .and_then(Value::as_array);
+    match only {
+        Some(kinds) => kinds
+            .iter()
+            .any(|kind| matches!(kind.as_str(), Some("" | "quickfix"))),
+        None => true,
+    }
 }

@@ -29,7 +29,7 @@ pub enum ErrorCode {
     InvalidRequest,
     /// The method is not known, or is none of requests.
     MethodNotFound,
-    /// The parameters name no document that is open.
+    /// The parameters name no document that is open, or no position or new name there.
     InvalidParams,
     /// `initialize` has not come.
     NotInitialized,
@@ -88,7 +88,8 @@ impl ErrorCode {
             ErrorCode::ParseError => "the message is no JSON text",
             ErrorCode::InvalidRequest => "the request has no place here",
             ErrorCode::MethodNotFound => "the method is not known",
-            ErrorCode::InvalidParams => "the parameters name no open document",
+            ErrorCode::InvalidParams =>
+                "the parameters name no open document, or no position or new name there",
             ErrorCode::NotInitialized => "the server is not initialized",
             ErrorCode::Rename(fault) => fault.text(),
         }
@@ -120,7 +121,8 @@ impl Phase {
                     | Method::WorkspaceSymbol
                     | Method::SemanticTokens
                     | Method::PrepareRename
-                    | Method::SelectionRange,
+                    | Method::SelectionRange
+                    | Method::CodeAction,
                 ),
             ) => None,
             (Phase::Running, _) => Some(ErrorCode::MethodNotFound),

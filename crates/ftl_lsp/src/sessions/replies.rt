@@ -1,15 +1,15 @@
 //! The messages that a server sends, as JSON values.
 ghost use Rattle.std.specs.Prelude.{◌≡◌, IfOk, map};
 ghost use Rattle.serde_json.specs.Data.{null};
-ghost use Rattle.serde_json.specs.View.{view};
+ghost use Rattle.serde_json.specs.View.{members_view, view};
 ghost use Rattle.ftl_lsp.specs.Locations.{edit_form, position_form, range_form, span_form};
-ghost use Rattle.ftl_lsp.specs.Renaming.{document_edits_form, renaming_form, version_form};
+ghost use Rattle.ftl_lsp.specs.Renaming.{changes_form, document_edits_form, renaming_form, version_form};
 ghost use Rattle.ftl_lsp.specs.Replies.{answer_form, diagnostics_form, diagnostics_params, refusal_form, register_form};
 
 use crate::documents::positions::{Position, Positions};
 use crate::sessions::phases::ErrorCode;
 use fluent_syntax::spans::Span;
-use serde_json::{Value, json};
+use serde_json::{Map, Value, json};
 use std::alloc::{AllocError, Global};
 
 /// The answer to the request with the identifier.
@@ -54,6 +54,7 @@ fn provider_capabilities(alloc: Global, prepares_renaming: bool) -> Result<Value
         "textDocumentSync": (document_sync(alloc)?),
         "documentSymbolProvider": true,
         "documentFormattingProvider": true,
+        "codeActionProvider": {"codeActionKinds": ["quickfix"]},
         "foldingRangeProvider": true,
         "definitionProvider": true,
         "referencesProvider": true,
@@ -255,7 +256,15 @@ pub fn edit_form(
     json!(in alloc; {"range": range, "newText": text})
 }
 
-/// The edits of documents, in one value. `AllocError` where a growth was refused.
+/// The edits of documents by their names, in one value. `AllocError` where a growth was refused.
+pub fn changes_form(alloc: Global, changes: Map<String, Value>) -> Result<Value, AllocError>
+    ensures { IfOk result (λ value. view value ≡ changes_form (members_view changes.entries)) }
+{
+    let changes = Value::Object(changes);
+    json!(in alloc; {"changes": changes})
+}
+
+/// The edits of documents in their versions, in one value. `AllocError` where a growth was refused.
 pub fn renaming_form(alloc: Global, changes: Vec<Value>) -> Result<Value, AllocError>
     ensures { IfOk result (λ value. view value ≡ renaming_form (map view changes.items)) }
 {

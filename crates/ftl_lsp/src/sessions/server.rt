@@ -12,6 +12,7 @@ use crate::sessions::endings::Ending;
 use crate::sessions::messages::{Message, message_of};
 use crate::sessions::methods::Method;
 use crate::sessions::notices::Notice;
+use crate::sessions::params::uri_of;
 use crate::sessions::phases::{ErrorCode, Phase};
 use crate::sessions::replies::{answer, null, refusal};
 use crate::workspace::Workspace;
@@ -28,6 +29,8 @@ pub struct Server {
     pub(crate) phase: Phase,
     /// Whether the editor takes related information of a diagnostic.
     pub(crate) related: bool,
+    /// Whether it takes edits of documents in their versions.
+    pub(crate) versioned: bool,
     /// Whether it takes Markdown where it shows what is hovered over.
     pub(crate) markdown: bool,
     /// Whether it takes symbols in symbols.
@@ -54,6 +57,7 @@ impl Server {
             alloc,
             phase: Phase::Fresh,
             related: false,
+            versioned: false,
             markdown: false,
             hierarchy: false,
             documents: Documents::new(alloc),
@@ -113,6 +117,15 @@ impl Server {
             self.notices.append(&mut faults)?;
         }
         Ok(())
+    }
+
+    /// Whether the files are read after a notification of the method: they may be others now, or a document is saved
+    /// whose file was left out.
+    fn reads_files_after(&self, method: Option<Method>, message: &Value) -> bool {
+        let open = uri_of(message).and_then(|uri| self.documents.get(uri));
+        changes_files(method)
+            || method == Some(Method::DidSave)
+                && open.is_some_and(|open| self.left_out_reason(open).is_some())
     }
 
     /// Takes the folders that come and go, if a notification of the method names such.
@@ -176,7 +189,7 @@ impl Server {
             return Ok(None);
         };
         self.change_folders(method, message)?;
-        self.read_files(changes_files(method), files)?;
+        self.read_files(self.reads_files_after(method, message), files)?;
         let sent = self.handle_notification(method, message)?;
         self.mark_stale(method, message)?;
         self.phase = self.phase.after_notification(method);

@@ -12,6 +12,15 @@ use std::alloc::{AllocError, Global};
 /// Why settings can't be gone by that name a reference.
 const NO_REFERENCE: &str = "`reference` names what is not there";
 
+/// Something that settings name by its path.
+#[derive(Drop)]
+struct NamedPath {
+    /// As it is named.
+    name: String,
+    /// From the root on.
+    path: String,
+}
+
 /// A folder that an editor works in.
 #[derive(Drop)]
 pub struct WorkspaceFolder {
@@ -27,6 +36,8 @@ pub struct WorkspaceFolder {
     denied: Vec<ReportedKind>,
     /// What is passed over below it.
     pub excluded: Excluded,
+    /// What of that is named by a path and not by a pattern.
+    excluded_paths: Vec<NamedPath>,
     /// What becomes of blank lines where its files are formatted.
     pub blank_lines: BlankLines,
     /// Where the reference language has its files, if that is said.
@@ -47,6 +58,7 @@ impl WorkspaceFolder {
             warned: Vec::new(alloc),
             denied: Vec::new(alloc),
             excluded: Excluded::new(alloc),
+            excluded_paths: Vec::new(alloc),
             blank_lines: BlankLines::Normal,
             reference: None,
             languages: None,
@@ -104,11 +116,9 @@ impl WorkspaceFolder {
             Err(fault) => (None, Some(fault)),
         };
         self.take_settings(alloc, settings)?;
-        let fault = match (fault, &self.reference) {
-            (None, Some(reference)) if !files.has(reference.path(alloc)?.as_str()) => {
-                Some(Notice::of_settings(alloc, self.path.as_str(), NO_REFERENCE)?)
-            }
-            (fault, _) => fault,
+        let fault = match fault {
+            None => self.absent_name(alloc, files)?,
+            fault => fault,
         };
         let new_fault = match &fault {
             Some(notice) if self.fault != fault => Some(notice.clone()?),
@@ -116,6 +126,28 @@ impl WorkspaceFolder {
         };
         self.fault = fault;
         Ok(new_fault)
+    }
+
+    /// That the settings name what is not there, if they do: a reference, or else what is to be passed over.
+    fn absent_name<F: Folders>(
+        &self,
+        alloc: Global,
+        files: &F,
+    ) -> Result<Option<Notice>, AllocError> {
+        let folder = self.path.as_str();
+        if let Some(reference) = &self.reference {
+            if !files.has(reference.path(alloc)?.as_str()) {
+                return Ok(Some(Notice::of_settings(alloc, folder, NO_REFERENCE)?));
+            }
+        }
+        for excluded in &self.excluded_paths {
+            if !files.has(excluded.path.as_str()) {
+                let name = excluded.name.as_str();
+                let fault = format!(in alloc; "`exclude` names what is not there: `{name}`")?;
+                return Ok(Some(Notice::of_settings(alloc, folder, fault.as_str())?));
+            }
+        }
+        Ok(None)
     }
 
     /// Notes what the settings say.
@@ -131,6 +163,7 @@ impl WorkspaceFolder {
         self.warned = Vec::new(alloc);
         self.denied = Vec::new(alloc);
         self.excluded = Excluded::new(alloc);
+        self.excluded_paths = Vec::new(alloc);
         self.blank_lines = BlankLines::Normal;
         let Some(ProjectSettings { folder, settings }) = project else {
             return Ok(());
@@ -147,6 +180,7 @@ impl WorkspaceFolder {
         } = settings;
         let folder = folder.as_str();
         self.excluded = excluded_in(alloc, folder, &excluded)?;
+        self.excluded_paths = named_paths_in(alloc, folder, excluded)?;
         self.blank_lines = blank_lines.unwrap_or(BlankLines::Normal);
         if let Some(name) = reference {
             let path = absolute_path(alloc, folder, name.as_str())?;
@@ -188,4 +222,20 @@ fn excluded_in(alloc: Global, folder: &str, texts: &[String]) -> Result<Excluded
         excluded.add(alloc, folder, text.as_str())?;
     }
     Ok(excluded)
+}
+
+/// Those of the exclusions that name something by its path, from the folder on.
+fn named_paths_in(
+    alloc: Global,
+    folder: &str,
+    texts: Vec<String>,
+) -> Result<Vec<NamedPath>, AllocError> {
+    let mut named = Vec::new(alloc);
+    for name in texts {
+        if name.contains('/') && !name.contains('*') {
+            let path = absolute_path(alloc, folder, name.as_str())?;
+            named.push(NamedPath { name, path })?;
+        }
+    }
+    Ok(named)
 }

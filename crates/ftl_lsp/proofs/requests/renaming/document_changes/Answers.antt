@@ -7,7 +7,9 @@ use Rattle.ftl_lsp.specs.Occurrences.{shown_of}
 use Rattle.ftl_lsp.specs.Renaming.{RenamesIn, renames_in}
 use Rattle.ftl_lsp.proofs.RenamingLemmas.{All-append_value}
 use Rattle.ftl_lsp.proofs.requests.renaming.document_changes.Goals as goal
-use Rattle.ftl_lsp.proofs.requests.renaming.document_changes.Goals.{then-not-is_empty+in_ok-edits_of_document+in_ok-push}
+use Rattle.ftl_lsp.proofs.requests.renaming.document_changes.Goals.{
+  then-not-is_empty+in_ok-edits_of_document+in_ok-push,
+}
 use Rattle.ftl_lsp.proofs.requests.renaming.document_changes.Goals.{else-not-is_empty}
 
 pub loop-document-preserved : goal.loop-document-preserved

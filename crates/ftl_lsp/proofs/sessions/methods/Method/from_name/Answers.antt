@@ -7,7 +7,7 @@ use Rattle.ftl_lsp.specs.declared.sessions.methods.Method.TheVariants.{Completio
 use Rattle.ftl_lsp.specs.declared.sessions.methods.Method.TheVariants.{DidOpen, DidChange, DidClose, DidSave, Exit}
 use Rattle.ftl_lsp.specs.declared.sessions.methods.Method.TheVariants.{Initialized, DidChangeWatchedFiles}
 use Rattle.ftl_lsp.specs.declared.sessions.methods.Method.TheVariants.{DidChangeWorkspaceFolders}
-use Rattle.ftl_lsp.specs.declared.sessions.methods.Method.TheVariants.{PrepareRename, SelectionRange}
+use Rattle.ftl_lsp.specs.declared.sessions.methods.Method.TheVariants.{CodeAction, PrepareRename, SelectionRange}
 use Rattle.ftl_lsp.proofs.sessions.methods.Method.from_name.Goals as goal
 
 pub returns-in_default-clause-other : goal.returns-in_default-clause-other
@@ -36,4 +36,5 @@ returns-in_default-clause-other c =
       | DidChangeWorkspaceFolders ↦ λ e. c.in_default.not-text-17 (sym e)
       | PrepareRename ↦ λ e. c.in_default.not-text-18 (sym e)
       | SelectionRange ↦ λ e. c.in_default.not-text-19 (sym e)
+      | CodeAction ↦ λ e. c.in_default.not-text-20 (sym e)
     ]

@@ -19,5 +19,6 @@ returns g c =
     running_notice_is_taken (session_of c.args.self.now) (session_of c.read_files.new.self)
     (session_of c.handle_notification.new.self)
     (session_of c.mark_stale.new.self) (view c.args.message.now) c.args.method (option_map view c.in_ok-sent.sent)
-    c.after_notification-self-2.result c.in-Running.is (c.in_ok-read_files.ensures ∙ c.in_ok-change_folders.ensures) c.in_ok-sent.ensures.phase
+    c.after_notification-self-2.result c.in-Running.is
+    (c.in_ok-read_files.ensures ∙ c.in_ok-change_folders.ensures) c.in_ok-sent.ensures.phase
     c.in_ok-mark_stale.ensures c.after_notification-self-2.ensures c.in_ok-sent.ensures.follows
