@@ -41,8 +41,8 @@ impl Server {
         Ok(Some(Value::Array(list)))
     }
 
-    /// What can be mended of the document, as far as the message asks for that. Nothing of one that is too long or nests
-    /// too deeply.
+    /// What can be mended of the document, as far as the message asks for that. Nothing of one that is too long or
+    /// nests too deeply.
     fn action_list(
         &self,
         uri: &str,
