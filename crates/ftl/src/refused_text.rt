@@ -162,8 +162,14 @@ impl<'t> RefusedText<'t> {
     /// The `=` at the place, if it follows the name of an argument and not that of an entry.
     fn argument_with_equals(&self, kind: &ErrorKind) -> Option<LineMistake> {
         let is_equals = self.text.get(self.place..)?.starts_with('=');
-        let is_entry = after_name(self.line_before_place()).is_empty();
-        if !matches!(kind, ErrorKind::ExpectedToken(')')) || !is_equals || is_entry {
+        let before = self.line_before_place();
+        let is_entry = after_name(before).is_empty();
+        let is_named = before.trim_end().ends_with(is_name_character);
+        if !matches!(kind, ErrorKind::ExpectedInlineExpression)
+            || !is_equals
+            || is_entry
+            || !is_named
+        {
             return None;
         }
         Some(LineMistake {
