@@ -121,8 +121,8 @@ fn line_starts_in(
     }
 }
 
-/// A file whose findings are reported: its path and its text, where its lines begin, the names of its set, the form, and
-/// how grave they are.
+/// A file whose findings are reported: its path and its text, where its lines begin, the names of its set, the form,
+/// and how grave they are.
 #[derive(Clone, Copy)]
 struct FileReporter<'a> {
     alloc: Global,
