@@ -160,18 +160,19 @@ impl WorkspaceFolder {
     ) -> Result<Option<Notice>, AllocError> {
         let folder = self.path.as_str();
         let mut fault = String::from_str(alloc, "`exclude` matches nothing with")?;
-        let mut separator = "";
+        let mut is_idle = false;
         for name in &self.exclusions {
             let mut exclusion = Excluded::new(alloc);
             exclusion.add(alloc, folder, name.as_str())?;
             let mut paths = passed_over.iter();
             if !paths.any(|path| exclusion.hides(folder, path.as_str())) {
+                let separator = if is_idle { "," } else { "" };
                 let idle = format!(in alloc; "{separator} `{name}`")?;
                 fault.push_str(idle.as_str())?;
-                separator = ",";
+                is_idle = true;
             }
         }
-        if separator.is_empty() {
+        if !is_idle {
             return Ok(None);
         }
         Ok(Some(Notice::of_settings(alloc, folder, fault.as_str())?))
