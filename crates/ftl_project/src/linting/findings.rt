@@ -124,17 +124,17 @@ fn line_starts_in(
 /// A file whose findings are reported: its path and its text, where its lines begin, the names of its set, the form,
 /// and how grave they are.
 #[derive(Clone, Copy)]
-struct FileReporter<'a> {
+struct FileReporter<'a, 't> {
     alloc: Global,
     path: &'a str,
     text: &'a str,
     starts: &'a LineStarts,
-    near_names: &'a NearNames<'a>,
+    near_names: &'a NearNames<'t>,
     form: Form,
     levels: Levels<'a>,
 }
 
-impl FileReporter<'_> {
+impl FileReporter<'_, '_> {
     /// What is reported of a finding in the file.
     fn finding_report<'t>(
         &self,
