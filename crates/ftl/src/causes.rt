@@ -38,7 +38,8 @@ pub struct Lead {
 /// placeables and argument lists open at once.
 ///
 /// The cause is the first that holds: an attribute of the junk is refused; a character looks like another; a select has
-/// no `{`; a line is a mark of a merge, or a comment of another language; a line goes on with the text above it.
+/// no `{`; an argument has `=` for `:`; an entry is indented; a line is a mark of a merge, or a comment of another
+/// language; a line goes on with the text above it.
 ///
 /// It reads the junk of the error, and takes time by its length. `AllocError` where a growth was refused.
 pub fn lead_of(
@@ -117,7 +118,12 @@ fn refused_attribute(
     let cause = match found {
         Some(found) => look_alike_cause(alloc, found, Some(kind))?,
         None => {
-            let what = advice(&kind);
+            let what = match kind {
+                ErrorKind::MissingValue if line.follows_equals() => {
+                    "an attribute needs a text after its `=`"
+                }
+                _ => advice(&kind),
+            };
             Cause {
                 start: pos.start,
                 end: pos.end,

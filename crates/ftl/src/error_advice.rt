@@ -27,7 +27,7 @@ pub fn advice(kind: &ErrorKind) -> &'static str {
         ErrorKind::MessageAttributeAsSelector => SELECTOR,
         ErrorKind::ExpectedSimpleExpressionAsSelector => SELECTOR,
         ErrorKind::TermAttributeAsPlaceable => {
-            "the attribute of a term is never shown: it can only be a selector, before `->`"
+            "the attribute of a term is never shown: it chooses a variant, before `->`"
         }
         ErrorKind::UnterminatedStringLiteral => {
             "a string ends with `\"` on the line on which it begins"

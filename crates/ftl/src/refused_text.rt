@@ -147,10 +147,59 @@ impl<'t> RefusedText<'t> {
         if let Some(found) = self.incomplete_select(kind) {
             return Some(found);
         }
+        if let Some(found) = self.argument_with_equals(kind) {
+            return Some(found);
+        }
+        if let Some(found) = self.indented_entry() {
+            return Some(found);
+        }
         if let Some(found) = self.foreign_mark() {
             return Some(found);
         }
         self.line_that_goes_on()
+    }
+
+    /// The `=` at the place, if it follows the name of an argument and not that of an entry.
+    fn argument_with_equals(&self, kind: &ErrorKind) -> Option<LineMistake> {
+        let is_equals = self.text.get(self.place..)?.starts_with('=');
+        let before = self.line_before_place();
+        let is_entry = after_name(before).is_empty();
+        let is_named = before.trim_end().ends_with(is_name_character);
+        if !matches!(kind, ErrorKind::ExpectedInlineExpression)
+            || !is_equals
+            || is_entry
+            || !is_named
+        {
+            return None;
+        }
+        Some(LineMistake {
+            start: self.place,
+            end: self.place.saturating_add(1),
+            message: "the name of an argument is followed by `:`",
+        })
+    }
+
+    /// The spaces at the place, if an entry follows them.
+    fn indented_entry(&self) -> Option<LineMistake> {
+        let line = self.text.get(self.place..self.end)?;
+        let entry = line.trim_start_matches(' ');
+        let spaces = line.len().saturating_sub(entry.len());
+        let rest = after_name(entry);
+        let is_entry = rest.len() < entry.len() && rest.starts_with('=');
+        if spaces == 0 || !is_entry || !self.line_before_place().is_empty() {
+            return None;
+        }
+        Some(LineMistake {
+            start: self.place,
+            end: self.place.saturating_add(spaces),
+            message: "a message begins at the start of its line: remove the spaces",
+        })
+    }
+
+    /// Whether an `=` comes before the place.
+    pub(crate) fn follows_equals(&self) -> bool {
+        let before = self.text.get(..self.place).unwrap_or("");
+        before.trim_end().ends_with('=')
     }
 
     /// What comes before a variant at the place, or on the line that begins there, and is not yet a select: it has no
@@ -216,7 +265,9 @@ impl<'t> RefusedText<'t> {
             Some(at) => above.get(at.saturating_add(1)..)?,
             None => above,
         };
-        let goes_on = !line.contains('=') && !line.starts_with(LINE_MARKS);
+        let after_name = after_name(line.trim_end());
+        let is_entry = after_name.is_empty() || after_name.starts_with(':');
+        let goes_on = !is_entry && !line.contains('=') && !line.starts_with(LINE_MARKS);
         if !goes_on || above.trim_end().is_empty() || above.starts_with('#') {
             return None;
         }
@@ -226,6 +277,17 @@ impl<'t> RefusedText<'t> {
             message: "indent the line if it goes on with the text above",
         })
     }
+}
+
+/// What follows the name of a message or a term, and blanks, with which the text begins.
+fn after_name(text: &str) -> &str {
+    let name = text.strip_prefix('-').unwrap_or(text);
+    name.trim_start_matches(is_name_character)
+        .trim_start_matches(' ')
+}
+
+fn is_name_character(c: char) -> bool {
+    c.is_ascii_alphanumeric() || c == '-' || c == '_'
 }
 
 /// A character that looks like a space, or like nothing, in the blanks that begin a line.

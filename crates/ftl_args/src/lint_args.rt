@@ -36,7 +36,8 @@ pub(crate) fn lint_command<'a>(alloc: Global) -> Result<Command<'a>, AllocError>
   ftl lint --each locales                   the same, each folder in locales as a set of its own
   ftl lint --ignore undefined-message menu.ftl
 
-Where ftl.toml has the line reference = \"locales/en\", each folder in locales is a set of its own also without --each.",
+Where ftl.toml has the line reference = \"locales/en\", each folder in locales is a set of its own \
+also without --each.",
         )
         .arg(form(alloc))?
         .arg(color(alloc))?

@@ -19,6 +19,8 @@ pub struct Listing {
     pub faults: Vec<(String, io::Error)>,
     /// A folder, for each entry of it that is passed over since its name is not UTF-8.
     pub with_other_names: Vec<String>,
+    /// The paths from the root on of the folders and files that are excluded.
+    pub passed_over: Vec<String>,
     /// Whether some were left out for their number.
     pub is_cut: bool,
 }
@@ -114,6 +116,7 @@ fn no_files<R: AllocGlobal>(rt: &R) -> Listing {
         files: Vec::new(rt.alloc()),
         faults: Vec::new(rt.alloc()),
         with_other_names: Vec::new(rt.alloc()),
+        passed_over: Vec::new(rt.alloc()),
         is_cut: false,
     }
 }
@@ -186,17 +189,18 @@ fn list_entry<R: Files + AllocGlobal + Clone + Drop>(
     let name = entry.file_name();
     let absolute = format!(in rt.alloc(); "{}/{name}", folder.absolute)?;
     match entry.file_type() {
-        Ok(kind) if kind.is_dir() && !search.excluded.has_folder(absolute.as_str()) => {
-            folders.push_back(Found {
-                path,
-                absolute,
-                is_met: true,
-            })?;
+        Ok(kind) if !kind.is_dir() && !kind.is_file() => (),
+        Ok(_) if search.excluded.has_file(absolute.as_str()) => listing.passed_over.push(absolute)?,
+        Ok(kind) if kind.is_file() => {
+            if name.ends_with(".ftl") {
+                listing.files.push(path)?;
+            }
         }
-        Ok(kind)
-            if kind.is_file()
-                && name.ends_with(".ftl")
-                && !search.excluded.has_file(absolute.as_str()) => listing.files.push(path)?,
+        Ok(_) if !name.starts_with('.') => folders.push_back(Found {
+            path,
+            absolute,
+            is_met: true,
+        })?,
         Ok(_) => (),
         Err(error) if is_passed_over(name, error.kind()) => (),
         Err(error) => add_fault(rt, path.as_str(), error, listing)?,

@@ -193,14 +193,17 @@ impl Folders for Memory {
         excluded: &Excluded,
     ) -> Result<Listing, AllocError> {
         let mut files = Vec::new(alloc);
+        let mut passed_over = Vec::new(alloc);
         for change in &self.changes {
             let path = change.path.as_str();
-            if path.ends_with(".ftl")
-                && is_below(folder, path)
-                && !excluded.hides(folder, path)
-                && latest(self.changes.as_slice(), path).is_some()
-            {
-                files.push(String::from_str(alloc, path)?)?;
+            let is_there = latest(self.changes.as_slice(), path).is_some();
+            if is_there && path.ends_with(".ftl") && is_below(folder, path) {
+                let path = String::from_str(alloc, path)?;
+                if excluded.hides(folder, path.as_str()) {
+                    passed_over.push(path)?;
+                } else {
+                    files.push(path)?;
+                }
             }
         }
         files.sort()?;
@@ -209,6 +212,7 @@ impl Folders for Memory {
             files,
             faults: Vec::new(alloc),
             with_other_names: Vec::new(alloc),
+            passed_over,
             is_cut: false,
         })
     }

@@ -6,6 +6,7 @@ ghost use Rattle.ftl_files.specs.declared.limits.TheConstants.{BYTES_LIMIT, FILE
 use crate::excluded::Excluded;
 use crate::folders::Folders;
 use crate::limits::{BYTES_LIMIT, FILE_LIMIT, FILES_LIMIT};
+use crate::listing::Listing;
 use crate::paths::is_below;
 use std::alloc::{AllocError, Global};
 
@@ -22,6 +23,8 @@ pub struct SourceFiles {
     pub files: Vec<SourceFile>,
     /// The paths of those that were listed and not read.
     pub left_out: Vec<String>,
+    /// The paths of the folders and files that are excluded.
+    pub passed_over: Vec<String>,
     /// Whether all were listed, and none was left out for their number.
     pub is_whole: bool,
 }
@@ -41,10 +44,15 @@ pub fn read_files<F: Folders>(
 {
     let listing = files.files_below(alloc, folder, excluded)?;
     let mut is_whole = listing.is_whole();
+    let Listing {
+        files: paths,
+        passed_over,
+        ..
+    } = listing;
     let mut found = Vec::new(alloc);
     let mut left_out = Vec::new(alloc);
     let mut left = BYTES_LIMIT;
-    for path in listing.files {
+    for path in paths {
         if found.len() < FILES_LIMIT && is_below(folder, path.as_str()) {
             match read_text(alloc, files, path.as_str(), left.min(FILE_LIMIT))? {
                 Some(text) => {
@@ -60,6 +68,7 @@ pub fn read_files<F: Folders>(
     Ok(SourceFiles {
         files: found,
         left_out,
+        passed_over,
         is_whole,
     })
 }

@@ -3,10 +3,13 @@ ghost use Rattle.std.specs.Prelude.{IfSome};
 ghost use Rattle.std.specs.List.{Contains};
 
 /// The name that is spelled most like the word, the first of several: with one letter more, fewer or another, or in a
-/// word of four letters or more with two. None where none is.
+/// word of four letters or more with two. None where none is, and of a word of one or two letters.
 pub fn nearest_name<'n>(word: &str, names: &[&'n str]) -> Option<&'n str>
     ensures { IfSome result (Contains names.now) }
 {
+    if word.len() < 3 {
+        return None;
+    }
     for name in names {
         if is_one_off(word.as_bytes(), name.as_bytes()) {
             return Some(*name);

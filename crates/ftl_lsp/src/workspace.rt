@@ -117,9 +117,15 @@ impl Workspace {
             let SourceFiles {
                 files: sources,
                 left_out: unread,
+                passed_over,
                 is_whole,
             } = read_files(alloc, files, folder.path.as_str(), &folder.excluded)?;
             all = all && is_whole;
+            if is_whole {
+                if let Some(notice) = folder.new_idle_exclusions(alloc, &passed_over)? {
+                    add_notice(&mut notices, notice)?;
+                }
+            }
             for path in unread {
                 left_out.push(LeftOutFile::unread(alloc, files, path)?)?;
             }

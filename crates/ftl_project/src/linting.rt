@@ -12,6 +12,7 @@ ghost use Rattle.ftl_project.specs.NameIndexes.{IsShort};
 ghost use Rattle.ftl_project.specs.declared.linting.findings.Source.{Source};
 
 pub mod findings;
+pub mod near_names;
 
 use crate::comparing::differences::is_error_kind;
 use crate::fault::Fault;

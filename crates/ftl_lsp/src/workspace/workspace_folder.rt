@@ -12,15 +12,6 @@ use std::alloc::{AllocError, Global};
 /// Why settings can't be gone by that name a reference.
 const NO_REFERENCE: &str = "`reference` names what is not there";
 
-/// Something that settings name by its path.
-#[derive(Drop)]
-struct NamedPath {
-    /// As it is named.
-    name: String,
-    /// From the root on.
-    path: String,
-}
-
 /// A folder that an editor works in.
 #[derive(Drop)]
 pub struct WorkspaceFolder {
@@ -36,8 +27,8 @@ pub struct WorkspaceFolder {
     denied: Vec<ReportedKind>,
     /// What is passed over below it.
     pub excluded: Excluded,
-    /// What of that is named by a path and not by a pattern.
-    excluded_paths: Vec<NamedPath>,
+    /// The same, as its own settings name it; none where those are of a folder above.
+    exclusions: Vec<String>,
     /// What becomes of blank lines where its files are formatted.
     pub blank_lines: BlankLines,
     /// Where the reference language has its files, if that is said.
@@ -46,6 +37,8 @@ pub struct WorkspaceFolder {
     languages: Option<String>,
     /// Why the settings can't be gone by, if they can't.
     fault: Option<Notice>,
+    /// That some exclusions match nothing, if they do.
+    idle: Option<Notice>,
 }
 
 impl WorkspaceFolder {
@@ -58,11 +51,12 @@ impl WorkspaceFolder {
             warned: Vec::new(alloc),
             denied: Vec::new(alloc),
             excluded: Excluded::new(alloc),
-            excluded_paths: Vec::new(alloc),
+            exclusions: Vec::new(alloc),
             blank_lines: BlankLines::Normal,
             reference: None,
             languages: None,
             fault: None,
+            idle: None,
         })
     }
 
@@ -135,26 +129,60 @@ impl WorkspaceFolder {
         Ok(new_fault)
     }
 
-    /// That the settings name what is not there, if they do: a reference, or else what is to be passed over.
+    /// That the settings name a reference that is not there, if they do.
     fn absent_name<F: Folders>(
         &self,
         alloc: Global,
         files: &F,
     ) -> Result<Option<Notice>, AllocError> {
+        match &self.reference {
+            Some(reference) if !files.has(reference.path(alloc)?.as_str()) => {
+                Ok(Some(Notice::of_settings(alloc, self.path.as_str(), NO_REFERENCE)?))
+            }
+            _ => Ok(None),
+        }
+    }
+
+    /// The notice of exclusions that match nothing, where `passed_over` is all that they match and there was no such
+    /// notice before. `AllocError` where a growth was refused.
+    pub fn new_idle_exclusions(
+        &mut self,
+        alloc: Global,
+        passed_over: &[String],
+    ) -> Result<Option<Notice>, AllocError> {
+        let idle = self.idle_exclusions(alloc, passed_over)?;
+        let new = match &idle {
+            Some(notice) if self.idle != idle => Some(notice.clone()?),
+            _ => None,
+        };
+        self.idle = idle;
+        Ok(new)
+    }
+
+    /// That some exclusions match nothing, if they do.
+    fn idle_exclusions(
+        &self,
+        alloc: Global,
+        passed_over: &[String],
+    ) -> Result<Option<Notice>, AllocError> {
         let folder = self.path.as_str();
-        if let Some(reference) = &self.reference {
-            if !files.has(reference.path(alloc)?.as_str()) {
-                return Ok(Some(Notice::of_settings(alloc, folder, NO_REFERENCE)?));
+        let mut fault = String::from_str(alloc, "`exclude` matches nothing with")?;
+        let mut is_idle = false;
+        for name in &self.exclusions {
+            let mut exclusion = Excluded::new(alloc);
+            exclusion.add(alloc, folder, name.as_str())?;
+            let mut paths = passed_over.iter();
+            if !paths.any(|path| exclusion.hides(folder, path.as_str())) {
+                let separator = if is_idle { "," } else { "" };
+                let idle = format!(in alloc; "{separator} `{name}`")?;
+                fault.push_str(idle.as_str())?;
+                is_idle = true;
             }
         }
-        for excluded in &self.excluded_paths {
-            if !files.has(excluded.path.as_str()) {
-                let name = excluded.name.as_str();
-                let fault = format!(in alloc; "`exclude` names what is not there: `{name}`")?;
-                return Ok(Some(Notice::of_settings(alloc, folder, fault.as_str())?));
-            }
+        if !is_idle {
+            return Ok(None);
         }
-        Ok(None)
+        Ok(Some(Notice::of_settings(alloc, folder, fault.as_str())?))
     }
 
     /// Notes what the settings say.
@@ -170,7 +198,7 @@ impl WorkspaceFolder {
         self.warned = Vec::new(alloc);
         self.denied = Vec::new(alloc);
         self.excluded = Excluded::new(alloc);
-        self.excluded_paths = Vec::new(alloc);
+        self.exclusions = Vec::new(alloc);
         self.blank_lines = BlankLines::Normal;
         let Some(ProjectSettings { folder, settings }) = project else {
             return Ok(());
@@ -187,7 +215,9 @@ impl WorkspaceFolder {
         } = settings;
         let folder = folder.as_str();
         self.excluded = excluded_in(alloc, folder, &excluded)?;
-        self.excluded_paths = named_paths_in(alloc, folder, excluded)?;
+        if folder == self.path.as_str() {
+            self.exclusions = excluded;
+        }
         self.blank_lines = blank_lines.unwrap_or(BlankLines::Normal);
         if let Some(name) = reference {
             let path = absolute_path(alloc, folder, name.as_str())?;
@@ -229,20 +259,4 @@ fn excluded_in(alloc: Global, folder: &str, texts: &[String]) -> Result<Excluded
         excluded.add(alloc, folder, text.as_str())?;
     }
     Ok(excluded)
-}
-
-/// Those of the exclusions that name something by its path, from the folder on.
-fn named_paths_in(
-    alloc: Global,
-    folder: &str,
-    texts: Vec<String>,
-) -> Result<Vec<NamedPath>, AllocError> {
-    let mut named = Vec::new(alloc);
-    for name in texts {
-        if name.contains('/') && !name.contains('*') {
-            let path = absolute_path(alloc, folder, name.as_str())?;
-            named.push(NamedPath { name, path })?;
-        }
-    }
-    Ok(named)
 }

@@ -6,6 +6,7 @@ ghost use Rattle.ftl_project.specs.Diagnostics.{IsDiagnostic, ReportsEach};
 ghost use Rattle.ftl_project.specs.Subjects.{subject_name};
 ghost use Rattle.fluent_syntax_names.specs.Severities.{name_of};
 
+use crate::linting::near_names::NearNames;
 use crate::reporting::diagnostics::{
     Diagnostic, OtherPlace, SourceLocation, Subject, diagnostic_text, location_of,
 };
@@ -43,6 +44,7 @@ pub(crate) fn report_findings(
     let mut file = 0;
     let mut lines = Lines::new(text_of(name_indexes, 0));
     let mut starts = LineStarts::of(alloc, text_of(name_indexes, 0))?;
+    let near_names = NearNames::of(alloc, name_indexes)?;
     for finding in findings {
         lines = lines_in(name_indexes, file, lines, finding.file);
         starts = line_starts_in(alloc, name_indexes, file, starts, finding.file)?;
@@ -52,6 +54,7 @@ pub(crate) fn report_findings(
             path: path_of(sources, file),
             text: text_of(name_indexes, file),
             starts: &starts,
+            near_names: &near_names,
             form,
             levels,
         };
@@ -118,13 +121,15 @@ fn line_starts_in(
     }
 }
 
-/// A file whose findings are reported: its path and its text, where its lines begin, the form, and how grave they are.
+/// A file whose findings are reported: its path and its text, where its lines begin, the names of its set, the form,
+/// and how grave they are.
 #[derive(Clone, Copy)]
 struct FileReporter<'a> {
     alloc: Global,
     path: &'a str,
     text: &'a str,
     starts: &'a LineStarts,
+    near_names: &'a NearNames<'a>,
     form: Form,
     levels: Levels<'a>,
 }
@@ -185,13 +190,18 @@ impl FileReporter<'_> {
         })
     }
 
-    /// A sentence on the finding.
+    /// A sentence on the finding, with the name that may be meant.
     fn message(&self, finding: &Finding) -> Result<String, AllocError> {
+        let (alloc, kind) = (self.alloc, finding.kind);
         let name = finding.place.map_or("", |span| full_name(self.text, span));
         let first = finding
             .other
             .map(|first| self.starts.line_column(first.span.start).0);
-        finding.kind.sentence(self.alloc, name, first)
+        let sentence = kind.sentence(alloc, name, first)?;
+        match self.near_names.meant(alloc, kind, name)? {
+            Some(near) => format!(in alloc; "{sentence}: did you mean `{near}`?"),
+            None => Ok(sentence),
+        }
     }
 }
 
