@@ -4,10 +4,12 @@ use Rattle.std.specs.Fmt.{decimal}
 use Rattle.std.specs.Prelude.{Bool, true, false, Option, Some, None}
 use Rattle.std.specs.Global.{Global}
 use Rattle.std.specs.declared.string.String.{String}
-use Rattle.serde_json.specs.Data.{Data, number, unsigned, string, array, object, member, no_members}
+use Rattle.serde_json.specs.Data.{Data, number, unsigned, string, array, object, member, no_members, put}
+use Rattle.serde_json.specs.Data.{item, no_items}
 use Rattle.serde_json.specs.View.{items_of}
 use Rattle.fluent_syntax_names.specs.Differences.{difference_name}
 use Rattle.fluent_syntax_names.specs.Severities as finding
+use Rattle.fluent_syntax_names.specs.declared.differences.Difference.TheVariants.{Obsolete, ObsoleteAttribute}
 use Rattle.fluent_syntax_names.specs.declared.finding.Severity.{Severity}
 use Rattle.fluent_syntax_names.specs.declared.finding.Severity.TheVariants.{Error, Warning}
 use Rattle.ftl_files.specs.Levels as level
@@ -99,14 +101,29 @@ abbrev pub code_of : LintDiagnosticKind → List ℕ
 code_of (Finding kind) = finding.name_of kind
 code_of (Difference difference) = difference_name difference
 
+-- whether its range is the name of what is to go
+abbrev pub is_faded : LintDiagnosticKind → Bool
+is_faded (Difference Obsolete) = true
+is_faded (Difference ObsoleteAttribute) = true
+is_faded kind = false
+
+-- with the protocol's tag of what is unnecessary, which editors fade
+abbrev pub with_tag : Data → Data
+with_tag (object members) = object (put (codes "tags") (array (item (number (unsigned 1)) no_items)) members)
+with_tag form = form
+
+abbrev pub tagged : LintDiagnosticKind → (form : Data) → Data
+tagged kind form = if is_faded kind then with_tag form else form
+
 -- The diagnostic of a finding, or of a difference from the original, as grave as some settings say; or, at the text's
 -- begin, that its file is left out where names are looked for.
 pub data IsLintDiagnostic : Data → Type 0 where
   alone : (range : PositionRange) (levels : Levels) (kind : LintDiagnosticKind) (message : List ℕ) →
-      IsLintDiagnostic (diagnostic_form range (severity_of levels kind) (code_of kind) message)
+      IsLintDiagnostic (tagged kind (diagnostic_form range (severity_of levels kind) (code_of kind) message))
   with_related : (range : PositionRange) (levels : Levels) (kind : LintDiagnosticKind) (message : List ℕ)
       (positions : Data) →
-      IsLintDiagnostic (diagnostic_with_related range (severity_of levels kind) (code_of kind) message positions)
+      IsLintDiagnostic
+      (tagged kind (diagnostic_with_related range (severity_of levels kind) (code_of kind) message positions))
   left_out : (reason : LeftOutReason) →
       IsLintDiagnostic (diagnostic_form begin Warning (codes "left-out") (left_out_sentence (codes "the file") reason))
 

@@ -22,6 +22,7 @@ pub mod Outbox
 pub mod Params
 pub mod Phases
 pub mod Positions
+pub mod RangeFormatting
 pub mod Renaming
 pub mod Replies
 pub mod Served

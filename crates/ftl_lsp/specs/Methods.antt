@@ -9,6 +9,7 @@ use Rattle.ftl_lsp.specs.declared.sessions.methods.Method.TheVariants.{Hover, Re
 use Rattle.ftl_lsp.specs.declared.sessions.methods.Method.TheVariants.{SemanticTokens, Initialized}
 use Rattle.ftl_lsp.specs.declared.sessions.methods.Method.TheVariants.{CodeAction, DidChangeWatchedFiles, PrepareRename}
 use Rattle.ftl_lsp.specs.declared.sessions.methods.Method.TheVariants.{SelectionRange, DidChangeWorkspaceFolders}
+use Rattle.ftl_lsp.specs.declared.sessions.methods.Method.TheVariants.{RangeFormatting}
 
 abbrev pub name_of : Method → List ℕ
 name_of Initialize = codes "initialize"
@@ -35,3 +36,4 @@ name_of DidChangeWorkspaceFolders = codes "workspace/didChangeWorkspaceFolders"
 name_of PrepareRename = codes "textDocument/prepareRename"
 name_of SelectionRange = codes "textDocument/selectionRange"
 name_of CodeAction = codes "textDocument/codeAction"
+name_of RangeFormatting = codes "textDocument/rangeFormatting"

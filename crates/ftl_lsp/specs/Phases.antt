@@ -12,6 +12,7 @@ use Rattle.ftl_lsp.specs.declared.sessions.methods.Method.TheVariants as methods
 use Rattle.ftl_lsp.specs.declared.sessions.methods.Method.TheVariants.{SemanticTokens, Initialized}
 use Rattle.ftl_lsp.specs.declared.sessions.methods.Method.TheVariants.{CodeAction, DidChangeWatchedFiles, PrepareRename}
 use Rattle.ftl_lsp.specs.declared.sessions.methods.Method.TheVariants.{SelectionRange, DidChangeWorkspaceFolders}
+use Rattle.ftl_lsp.specs.declared.sessions.methods.Method.TheVariants.{RangeFormatting}
 use Rattle.ftl_lsp.specs.declared.sessions.phases.Phase.{Phase}
 use Rattle.ftl_lsp.specs.declared.sessions.phases.Phase.TheVariants.{Fresh, Running, ShutDown, Exited, Left}
 use Rattle.ftl_lsp.specs.declared.sessions.phases.ErrorCode.{ErrorCode}
@@ -67,6 +68,7 @@ refusal_after (Some SemanticTokens) = None
 refusal_after (Some PrepareRename) = None
 refusal_after (Some SelectionRange) = None
 refusal_after (Some CodeAction) = None
+refusal_after (Some RangeFormatting) = None
 refusal_after (Some DidOpen) = Some MethodNotFound
 refusal_after (Some DidChange) = Some MethodNotFound
 refusal_after (Some DidClose) = Some MethodNotFound

@@ -19,7 +19,7 @@ use Rattle.ftl_lsp.specs.declared.sessions.methods.Method.TheVariants.{Definitio
 use Rattle.ftl_lsp.specs.declared.sessions.methods.Method.TheVariants.{Hover, Rename, Completion, SemanticTokens}
 use Rattle.ftl_lsp.specs.declared.sessions.methods.Method.TheVariants.{DidOpen, DidChange, DidClose, DidSave}
 use Rattle.ftl_lsp.specs.declared.sessions.methods.Method.TheVariants.{CodeAction, Initialized, PrepareRename}
-use Rattle.ftl_lsp.specs.declared.sessions.methods.Method.TheVariants.{SelectionRange}
+use Rattle.ftl_lsp.specs.declared.sessions.methods.Method.TheVariants.{RangeFormatting, SelectionRange}
 use Rattle.ftl_lsp.specs.declared.sessions.notices.Notice.{Notice}
 use Rattle.ftl_lsp.specs.declared.sessions.phases.ErrorCode.{ErrorCode}
 use Rattle.ftl_lsp.specs.declared.sessions.phases.ErrorCode.TheVariants.{ParseError, InvalidRequest, InvalidParams}
@@ -49,6 +49,7 @@ fits texts d (Some FoldingRange) = names_open texts d
 fits texts d (Some SemanticTokens) = names_open texts d
 fits texts d (Some SelectionRange) = names_open texts d
 fits texts d (Some CodeAction) = names_open texts d
+fits texts d (Some RangeFormatting) = names_open texts d
 fits texts d (Some Definition) = names_position texts d
 fits texts d (Some References) = names_position texts d
 fits texts d (Some DocumentHighlight) = names_position texts d

@@ -9,6 +9,7 @@ pub mod occurrences;
 pub mod offsets;
 pub mod open_documents;
 pub mod positions;
+pub mod trees;
 
 use crate::diagnostics::{Diagnostic, diagnostics_of, first_errors, too_deep};
 use crate::documents::entry_ranges::entry_range_at;

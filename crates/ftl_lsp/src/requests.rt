@@ -10,6 +10,7 @@ pub mod hover;
 pub mod nesting;
 pub mod original_names;
 pub mod places;
+pub mod range_formatting;
 pub mod renaming;
 pub mod request_context;
 pub mod responses;

@@ -215,6 +215,16 @@ impl Workspace {
         FileSet::OfNoLanguage
     }
 
+    /// The folder of all languages, where the set is that of the reference language there.
+    pub fn languages_of_reference<'p>(&self, set: FileSet<'p>) -> Option<&'p str> {
+        let mut folders = self.folders.iter();
+        if folders.any(|folder| folder.is_reference(set.key())) {
+            set.languages()
+        } else {
+            None
+        }
+    }
+
     /// The files of the set that are not among the open documents. `AllocError` where a growth was refused.
     pub fn closed_files_of(
         &self,

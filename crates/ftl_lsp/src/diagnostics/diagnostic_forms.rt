@@ -5,7 +5,7 @@ ghost use Rattle.fluent_syntax_names.specs.declared.finding.Severity.TheVariants
 ghost use Rattle.ftl_lsp.specs.DiagnosticForms.{IsLintDiagnostic, begin, code_of, count_list, diagnostic_form};
 ghost use Rattle.ftl_lsp.specs.DiagnosticForms.{diagnostic_with_related};
 ghost use Rattle.ftl_lsp.specs.DiagnosticForms.{error_alone, error_form, note_form, related_form};
-ghost use Rattle.ftl_lsp.specs.DiagnosticForms.{reported_kind, severity_number, severity_of};
+ghost use Rattle.ftl_lsp.specs.DiagnosticForms.{is_faded, reported_kind, severity_number, severity_of, tagged};
 
 use crate::diagnostics::{Diagnostic, RelatedNote};
 use crate::documents::positions::{Position, PositionRange};
@@ -58,6 +58,16 @@ impl LintDiagnosticKind {
             LintDiagnosticKind::Finding(kind) => kind.name(),
             LintDiagnosticKind::Difference(difference) => difference.name(),
         }
+    }
+
+    /// Whether its range is the name of what is to go, so that editors fade it.
+    fn is_faded(self) -> bool
+        ensures { result ≡ is_faded self }
+    {
+        matches!(
+            self,
+            LintDiagnosticKind::Difference(Difference::Obsolete | Difference::ObsoleteAttribute)
+        )
     }
 }
 
@@ -177,10 +187,29 @@ fn lint_diagnostic_form(
     let (range, message) = (diagnostic.range, diagnostic.message.as_str());
     let (severity, code) = (diagnostic.kind.severity(levels), diagnostic.kind.code());
     if !takes_related || diagnostic.related.is_empty() {
-        return diagnostic_form(alloc, range, severity, code, message);
+        let alone = diagnostic_form(alloc, range, severity, code, message)?;
+        return tagged(alloc, diagnostic.kind, alone);
     }
     let positions = related_list(alloc, &diagnostic.related)?;
-    form_with_related(alloc, range, severity, code, message, positions)
+    let form = form_with_related(alloc, range, severity, code, message, positions)?;
+    tagged(alloc, diagnostic.kind, form)
+}
+
+/// The diagnostic, with the tag of what is unnecessary where editors are to fade it.
+fn tagged(alloc: Global, kind: LintDiagnosticKind, form: Value) -> Result<Value, AllocError>
+    ensures { IfOk result (λ value. view value ≡ tagged kind (view form)) }
+{
+    if !kind.is_faded() {
+        return Ok(form);
+    }
+    match form {
+        Value::Object(mut members) => {
+            let tags = json!(in alloc; [1])?;
+            drop(members.insert(String::from_str(alloc, "tags")?, tags)?);
+            Ok(Value::Object(members))
+        }
+        form => Ok(form),
+    }
 }
 
 /// Other places, in order.

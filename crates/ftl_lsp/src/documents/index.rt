@@ -44,6 +44,8 @@ pub enum Scope<'p> {
     All,
     /// Those of a set.
     Set(FileSet<'p>),
+    /// Those of all languages that have their folders in this one.
+    Languages(&'p str),
 }
 
 impl Scope<'_> {
@@ -52,6 +54,7 @@ impl Scope<'_> {
         match self {
             Scope::All => true,
             Scope::Set(set) => workspace.set_of(path) == set,
+            Scope::Languages(folder) => workspace.set_of(path).languages() == Some(folder),
         }
     }
 }

@@ -17,13 +17,15 @@ use crate::sessions::methods::Method;
 use crate::sessions::params::{new_name, occurrence_filter, position_param, uri_of};
 use crate::sessions::phases::ErrorCode;
 use crate::sessions::server::Server;
+use crate::workspace::Workspace;
 use serde_json::Value;
 use std::alloc::{AllocError, Global};
 
 impl Server {
-    /// What a request asks of. None where it names no open document, or no place.
+    /// What a request of the method asks of. None where it names no open document, or no place.
     fn context_of<'s>(
         &'s self,
+        method: Option<Method>,
         message: &'s Value,
     ) -> Result<Option<RequestContext<'s>>, AllocError>
         ensures found { IfOk result
@@ -42,7 +44,7 @@ impl Server {
         };
         let (documents, workspace) = (self.documents.by_name(), &self.workspace);
         let path = open.path_or(uri);
-        let scope = Scope::Set(workspace.set_of(path));
+        let scope = scope_of(method, workspace, path);
         Ok(Some(RequestContext {
             documents: indexed_documents(self.alloc, documents, workspace, scope)?,
             uri,
@@ -71,7 +73,7 @@ impl Server {
         ensures { IfOk result
             (λ found. is_some found ≡ names_position (texts self.now.documents) (view message.now)) }
     {
-        match self.context_of(message)? {
+        match self.context_of(method, message)? {
             Some(context) => {
                 let value = place_value(self.alloc, method, message, &context, self.markdown)?;
                 Ok(Some(value))
@@ -89,7 +91,7 @@ impl Server {
         ensures refused { let fitting = renames_position (texts self.now.documents) (view message.now) in
             IfOk result (λ found. IfErr found (RefusesFor (Some Method.Rename) fitting)) }
     {
-        let Some(context) = self.context_of(message)? else {
+        let Some(context) = self.context_of(Some(Method::Rename), message)? else {
             return Ok(Err(ErrorCode::InvalidParams));
         };
         let Some(name) = new_name(message) else {
@@ -99,6 +101,16 @@ impl Server {
             Ok(edits) => Ok(Ok(edits)),
             Err(fault) => Ok(Err(ErrorCode::Rename(fault))),
         }
+    }
+}
+
+/// Which documents and files a request of the method asks of, at the document of the path: those of its set, but of all
+/// languages where it renames in the reference language.
+fn scope_of<'p>(method: Option<Method>, workspace: &Workspace, path: &'p str) -> Scope<'p> {
+    let set = workspace.set_of(path);
+    match workspace.languages_of_reference(set) {
+        Some(languages) if method == Some(Method::Rename) => Scope::Languages(languages),
+        _ => Scope::Set(set),
     }
 }
 

@@ -1,4 +1,4 @@
-//! Another name for what a name means, in the documents and files of a set.
+//! Another name for what a name means, in the documents and files of a set or of all languages.
 ghost use Rattle.std.specs.Prelude.{◌≡◌, ◌∷◌, ℕ, List, All, IfOk, Option, Some, map, true};
 ghost use Rattle.std.specs.List.{list_all};
 ghost use Rattle.fluent_syntax_grammar.specs.Bytes.{is_name_byte};
@@ -125,9 +125,9 @@ pub fn rename_range(alloc: Global, context: &RequestContext<'_>) -> Result<Value
     }
 }
 
-/// The edits by which the name at the place has the new name in the documents and files of the set, none where it is
-/// its own; or why it can't have it. Each document may be `versioned` where the editor takes that. `AllocError` where a
-/// growth was refused.
+/// The edits by which the name at the place has the new name in the documents and files that are asked of, none where
+/// it is its own; or why it can't have it. Each document may be `versioned` where the editor takes that. `AllocError`
+/// where a growth was refused.
 pub fn rename_edits(
     alloc: Global,
     context: &RequestContext<'_>,

@@ -15,10 +15,10 @@ use ftl_files::shared_folders;
 use serde_json::Value;
 use std::alloc::{AllocError, Global};
 
-/// The open documents and the closed files of a set, which of them is named, and a byte of it.
+/// The open documents and the closed files that are asked of, which of them is named, and a byte of it.
 #[derive(Drop)]
 pub struct RequestContext<'d> {
-    /// Those of the set that the document is of that is named.
+    /// Those of the set that the document is of that is named; of all languages for a renaming in the reference.
     pub documents: Vec<IndexedDocument<'d>>,
     /// The document that is named.
     pub uri: &'d str,

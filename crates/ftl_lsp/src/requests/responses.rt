@@ -63,6 +63,10 @@ impl Server {
             Some(Method::Formatting) => Ok(
                 self.formatting(message)?.ok_or(ErrorCode::InvalidParams),
             ),
+            Some(Method::RangeFormatting) => Ok(
+                self.range_formatting(message)?
+                    .ok_or(ErrorCode::InvalidParams),
+            ),
             Some(
                 Method::DocumentSymbol
                 | Method::FoldingRange
@@ -88,7 +92,7 @@ impl Server {
     }
 
     /// The open document that the message names.
-    fn document_of(&self, message: &Value) -> Option<&OpenDocument>
+    pub(crate) fn document_of(&self, message: &Value) -> Option<&OpenDocument>
         ensures { option_map (λ response. open_text response.now) result
             ≡ option_and_then (texts self.now.documents) (uri_in (view message.now)) }
     {
@@ -129,7 +133,7 @@ impl Server {
         let blank_lines = self.workspace.blank_lines_at(open.path.as_deref());
         let Some(formatted) = formatted_text(self.alloc, text, blank_lines)? else {
             let name = uri_of(message).unwrap_or("");
-            let notice = Notice::of_unformatted(self.alloc, name, open, &self.workspace)?;
+            let notice = Notice::of_unformatted(self.alloc, name, open, &self.workspace, true)?;
             self.notices.push(notice)?;
             return Ok(Some(null()));
         };

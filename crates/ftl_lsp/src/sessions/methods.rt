@@ -29,6 +29,7 @@ pub enum Method {
     PrepareRename,
     SelectionRange,
     CodeAction,
+    RangeFormatting,
 }
 
 impl Method {
@@ -62,6 +63,7 @@ impl Method {
             "textDocument/prepareRename" => Some(Method::PrepareRename),
             "textDocument/selectionRange" => Some(Method::SelectionRange),
             "textDocument/codeAction" => Some(Method::CodeAction),
+            "textDocument/rangeFormatting" => Some(Method::RangeFormatting),
             _ => None,
         }
     }

@@ -28,7 +28,7 @@ pub enum Notice {
 }
 
 impl Notice {
-    /// That the document is left as it is where it was to be formatted, and why.
+    /// That the document is left as it is where it was to be formatted, as a `whole` or a range of it, and why.
     ///
     /// `AllocError` where a growth was refused.
     pub fn of_unformatted(
@@ -36,13 +36,16 @@ impl Notice {
         uri: &str,
         open: &OpenDocument,
         workspace: &Workspace,
+        whole: bool,
     ) -> Result<Notice, AllocError> {
         let name = String::from_str(alloc, workspace.display_path(open.path_or(uri)))?;
         let document = &open.document;
         match document.diagnostics().first() {
             Some(_) if document.is_too_deep() => Ok(Notice::TooDeep(name)),
-            Some(error) => Ok(Notice::HasError(name, error.start.line.saturating_add(1))),
-            None => Ok(Notice::NotReadBack(name)),
+            Some(error) if whole => {
+                Ok(Notice::HasError(name, error.start.line.saturating_add(1)))
+            }
+            _ => Ok(Notice::NotReadBack(name)),
         }
     }
 

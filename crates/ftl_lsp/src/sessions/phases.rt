@@ -122,7 +122,8 @@ impl Phase {
                     | Method::SemanticTokens
                     | Method::PrepareRename
                     | Method::SelectionRange
-                    | Method::CodeAction,
+                    | Method::CodeAction
+                    | Method::RangeFormatting,
                 ),
             ) => None,
             (Phase::Running, _) => Some(ErrorCode::MethodNotFound),

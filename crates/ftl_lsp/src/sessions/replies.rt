@@ -54,6 +54,7 @@ fn provider_capabilities(alloc: Global, prepares_renaming: bool) -> Result<Value
         "textDocumentSync": (document_sync(alloc)?),
         "documentSymbolProvider": true,
         "documentFormattingProvider": true,
+        "documentRangeFormattingProvider": true,
         "codeActionProvider": {"codeActionKinds": ["quickfix"]},
         "foldingRangeProvider": true,
         "definitionProvider": true,

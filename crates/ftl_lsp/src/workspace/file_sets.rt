@@ -22,6 +22,14 @@ impl<'p> FileSet<'p> {
         }
     }
 
+    /// The folder in which each language has its own. `None` where it is no language's.
+    pub fn languages(self) -> Option<&'p str> {
+        match self {
+            FileSet::Language(folder) => Some(folder.rsplit_once('/')?.0),
+            FileSet::OfNoLanguage | FileSet::Alone(_) => None,
+        }
+    }
+
     /// The plural categories of the language, by the name of its folder. `None` where they are not known.
     pub fn categories(self) -> Option<&'static [&'static str]> {
         let FileSet::Language(folder) = self else {

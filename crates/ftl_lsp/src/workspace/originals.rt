@@ -40,6 +40,11 @@ impl Reference {
         format!(in alloc; "{above}/{own}")
     }
 
+    /// Whether it is the folder.
+    pub fn is_folder(&self, folder: &str) -> bool {
+        folder.rsplit_once('/') == Some((self.above.as_str(), self.own.as_str()))
+    }
+
     /// The path of the original of the file at the path. None where that is to be no translation. `AllocError` where a
     /// growth was refused.
     pub fn original_of(&self, alloc: Global, path: &str) -> Result<Option<String>, AllocError> {

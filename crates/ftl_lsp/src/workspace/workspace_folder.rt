@@ -97,6 +97,13 @@ impl WorkspaceFolder {
         }
     }
 
+    /// Whether the folder is that of the reference language.
+    pub fn is_reference(&self, folder: &str) -> bool {
+        self.reference
+            .as_ref()
+            .is_some_and(|reference| reference.is_folder(folder))
+    }
+
     /// Reads the settings anew. The notice says why they can't be gone by, where there was no such notice before.
     ///
     /// `AllocError` where a growth was refused.

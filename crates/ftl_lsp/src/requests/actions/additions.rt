@@ -1,5 +1,5 @@
 //! What a document's original has and the document is to get.
-ghost use Rattle.std.specs.Prelude.{◌≡◌, ℕ, List, All, IfOk, IfSome, map};
+ghost use Rattle.std.specs.Prelude.{◌≡◌, ℕ, List, All, IfOk, map};
 ghost use Rattle.serde_json.specs.View.{view};
 ghost use Rattle.fluent_syntax_grammar.specs.RoundTrip.{tree_of};
 ghost use Rattle.fluent_syntax_grammar.specs.Tiling.{Tile, Tiling};
@@ -8,11 +8,10 @@ ghost use Rattle.fluent_syntax_tree.specs.declared.edition.Edition.TheVariants.{
 ghost use Rattle.ftl_lsp.specs.Actions.{IsAction};
 ghost use Rattle.ftl_lsp.specs.OpenDocuments.{open_text};
 
-use crate::limits::NESTING_LIMIT;
+use crate::documents::trees::tree_of_text;
 use crate::requests::actions::mended_document::MendedDocument;
 use crate::workspace::originals::Original;
 use fluent_syntax::ast::Resource;
-use fluent_syntax::parser::{Edition, parse_within, recovered};
 use fluent_syntax_edits::additions;
 use ftl_files::{CommentRules, IgnoreRule, missing_names};
 use serde_json::Value;
@@ -84,20 +83,6 @@ fn choices(
         choices.insert(0, Choice { title, names })?;
     }
     Ok(choices)
-}
-
-/// The tree that the text is read as, with its junk. None where it nests too deeply.
-fn tree_of_text(alloc: Global, text: &str) -> Result<Option<Resource<&str>>, AllocError>
-    ensures { let t = text.now in IfOk result (λ found. IfSome found (λ tree. (tiles : List Tile)
-        × Tiling One t tiles × (map (entry_view (λ s. s.now)) tree.body.items ≡ tree_of t tiles))) }
-{
-    match parse_within(alloc, text, Edition::One, NESTING_LIMIT) {
-        Ok(answer) => {
-            let (tree, _errors) = recovered(alloc, answer)?;
-            Ok(Some(tree))
-        }
-        Err(_) => Ok(None),
-    }
 }
 
 /// The actions that add to the tree the entries of the reference that are chosen.

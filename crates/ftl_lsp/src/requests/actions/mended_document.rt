@@ -100,8 +100,8 @@ impl MendedDocument<'_> {
     }
 }
 
-/// The edits of the text that put each of these in place of its stretch.
-fn edit_list(alloc: Global, text: &str, found: &[Replacement]) -> Result<Vec<Value>, AllocError>
+/// The edits of the text that put each of these in place of its stretch. `AllocError` where a growth was refused.
+pub fn edit_list(alloc: Global, text: &str, found: &[Replacement]) -> Result<Vec<Value>, AllocError>
     ensures { IfOk result (λ list. map view list.items ≡ map (replacement_form text.now) found.now) }
 {
     let mut positions = Positions::new(text);

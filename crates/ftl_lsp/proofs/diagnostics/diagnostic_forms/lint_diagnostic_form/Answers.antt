@@ -1,7 +1,7 @@
 use Rattle.std.proofs.Common.{◌∙◌, ap, subst, sym}
 use Rattle.std.proofs.lemmas.Result.{IfOk-weaker}
 use Rattle.serde_json.specs.View.{view}
-use Rattle.ftl_lsp.specs.DiagnosticForms.{IsLintDiagnostic, alone, code_of, severity_of, with_related}
+use Rattle.ftl_lsp.specs.DiagnosticForms.{IsLintDiagnostic, alone, code_of, severity_of, tagged, with_related}
 use Rattle.ftl_lsp.specs.DiagnosticForms.{diagnostic_form, diagnostic_with_related}
 use Rattle.ftl_lsp.proofs.diagnostics.diagnostic_forms.lint_diagnostic_form.Goals as goal
 
@@ -14,10 +14,11 @@ returns c =
     c.severity-severity.ensures in
     let with_code = ap (λ code. diagnostic_with_related diagnostic.range
     (severity_of c.args.levels diagnostic.kind) code message positions) c.code-code.ensures in
-    IfOk-weaker c.form_with_related.result _ _
-    (λ value is. subst IsLintDiagnostic (sym (is ∙ (with_severity ∙ with_code)))
+    IfOk-weaker c.tagged-2.result _ _
+    (λ value is. subst IsLintDiagnostic
+    (sym (is ∙ ap (tagged diagnostic.kind) (c.in_ok-form.ensures ∙ (with_severity ∙ with_code))))
     (with_related diagnostic.range c.args.levels diagnostic.kind message positions))
-    c.form_with_related.ensures
+    c.tagged-2.ensures
 
 pub returns-then-not-takes_related : goal.returns-then-not-takes_related
 returns-then-not-takes_related c =
@@ -27,7 +28,8 @@ returns-then-not-takes_related c =
     ap (λ s. diagnostic_form diagnostic.range s c.code-code.result.now message) c.severity-severity.ensures in
     let with_code = ap (λ code. diagnostic_form diagnostic.range
     (severity_of c.args.levels diagnostic.kind) code message) c.code-code.ensures in
-    IfOk-weaker c.diagnostic_form.result _ _
-    (λ value is. subst IsLintDiagnostic (sym (is ∙ (with_severity ∙ with_code)))
+    IfOk-weaker c.tagged.result _ _
+    (λ value is. subst IsLintDiagnostic
+    (sym (is ∙ ap (tagged diagnostic.kind) (c.in_ok-alone.ensures ∙ (with_severity ∙ with_code))))
     (alone diagnostic.range c.args.levels diagnostic.kind message))
-    c.diagnostic_form.ensures
+    c.tagged.ensures

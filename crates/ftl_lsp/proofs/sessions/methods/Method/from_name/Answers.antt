@@ -7,7 +7,8 @@ use Rattle.ftl_lsp.specs.declared.sessions.methods.Method.TheVariants.{Completio
 use Rattle.ftl_lsp.specs.declared.sessions.methods.Method.TheVariants.{DidOpen, DidChange, DidClose, DidSave, Exit}
 use Rattle.ftl_lsp.specs.declared.sessions.methods.Method.TheVariants.{Initialized, DidChangeWatchedFiles}
 use Rattle.ftl_lsp.specs.declared.sessions.methods.Method.TheVariants.{DidChangeWorkspaceFolders}
-use Rattle.ftl_lsp.specs.declared.sessions.methods.Method.TheVariants.{CodeAction, PrepareRename, SelectionRange}
+use Rattle.ftl_lsp.specs.declared.sessions.methods.Method.TheVariants.{CodeAction, PrepareRename, RangeFormatting}
+use Rattle.ftl_lsp.specs.declared.sessions.methods.Method.TheVariants.{SelectionRange}
 use Rattle.ftl_lsp.proofs.sessions.methods.Method.from_name.Goals as goal
 
 pub returns-in_default-clause-other : goal.returns-in_default-clause-other
@@ -37,4 +38,5 @@ returns-in_default-clause-other c =
       | PrepareRename ↦ λ e. c.in_default.not-text-18 (sym e)
       | SelectionRange ↦ λ e. c.in_default.not-text-19 (sym e)
       | CodeAction ↦ λ e. c.in_default.not-text-20 (sym e)
+      | RangeFormatting ↦ λ e. c.in_default.not-text-21 (sym e)
     ]
