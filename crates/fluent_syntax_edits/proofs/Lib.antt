@@ -8,3 +8,4 @@ pub mod DraftSteps
 pub mod ErrorMoves
 pub mod JoinedParts
 pub mod EntryPlacesRead
+pub mod Merging

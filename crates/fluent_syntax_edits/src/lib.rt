@@ -10,6 +10,7 @@ mod edited_ranges;
 mod edits;
 mod entry_places;
 pub mod fault;
+mod missing_attributes;
 mod missing_entries;
 mod moved_errors;
 mod numbered_edits;

@@ -1,5 +1,6 @@
 //! Edits of texts.
 
+mod additions;
 mod calls;
 mod numbers;
 mod several;

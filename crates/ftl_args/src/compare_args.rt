@@ -62,7 +62,8 @@ fn add_missing<'a>(alloc: Global) -> Arg<'a> {
     Arg::new(alloc, "add-missing")
         .long("add-missing")
         .help(
-            "Adds the messages and terms that are missing, as the reference has them, where its order puts them",
+            "Adds the messages, terms and attributes that are missing, as the reference has them, where its order \
+            puts them",
         )
         .action(ArgAction::SetTrue)
 }

@@ -5,6 +5,7 @@ pub mod Kinds
 pub mod Languages
 pub mod Levels
 pub mod Memory
+pub mod Missing
 pub mod Nearness
 pub mod Options
 pub mod Originals

@@ -76,7 +76,7 @@ impl<'a, 't> CommentRules<'a, 't> {
 
 /// Whether a comment leaves out what is reported of a part that the file of this side has and the other one lacks: that
 /// of its entry in the translation; of an entry that the translation lacks, that of the reference's.
-pub fn is_part_left_out(
+pub(crate) fn is_part_left_out(
     side: Side,
     own: &CommentRules<'_, '_>,
     other: &CommentRules<'_, '_>,

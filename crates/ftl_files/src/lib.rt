@@ -31,7 +31,7 @@ mod spelling;
 mod store;
 mod uris;
 
-pub use comment_rules::{CommentRules, is_part_left_out};
+pub use comment_rules::CommentRules;
 pub use disk::Disk;
 pub use excluded::Excluded;
 pub use file_system::FileSystem;
@@ -45,7 +45,7 @@ pub use levels::Levels;
 pub use limits::{BYTES_LIMIT, FILE_LIMIT, FILES_LIMIT, FOLDERS_LIMIT};
 pub use listing::{Listing, list};
 pub use memory::Memory;
-pub use missing::missing_names;
+pub use missing::{addable_parts, added_names, is_part_reported};
 pub use nearness::shared_folders;
 pub use options::{
     BlankLines, Color, Form, Output, Reading, blank_lines_of_name, color_of_name, output_of_name,

@@ -4,9 +4,7 @@ use Rattle.std.specs.Prelude.{Vec, string_bytes}
 use Rattle.std.specs.Global.{Global}
 use Rattle.serde_json.specs.Data.{Data, string, array, object, member, no_members, put}
 use Rattle.serde_json.specs.View.{items_of}
-use Rattle.fluent_syntax_grammar.specs.RoundTrip.{tree_of}
 use Rattle.fluent_syntax_grammar.specs.Spellings.{is_name}
-use Rattle.fluent_syntax_grammar.specs.Tiling.{Tile, Tiling}
 use Rattle.fluent_syntax_tree.specs.declared.edition.Edition.TheVariants.{One}
 use Rattle.fluent_syntax_edits.specs.Additions.{IsAddition}
 use Rattle.fluent_syntax_edits.specs.Changes.{removes}
@@ -31,16 +29,15 @@ action_form title edit =
 abbrev pub replacement_form : (t : List ℕ) → Replacement → Data
 replacement_form t replacement = edit_form t (string_bytes replacement.text) replacement.span
 
--- The change inserts an entry of the tree that some text is read as, or removes one.
-abbrev pub Mends : NumberedChange → Type 0
-Mends change = ((r : List ℕ) × (tiles : List Tile) × Tiling One r tiles × IsAddition (tree_of r tiles) change)
-    ⊎ (change.change ≡ removes)
+-- The change of the text adds what some other text has besides, or removes an entry.
+abbrev pub Mends : (t : List ℕ) → NumberedChange → Type 0
+Mends t change = ((r : List ℕ) × IsAddition One r t change) ⊎ (change.change ≡ removes)
 
 -- The action makes such changes, so that the document is read as its tree with them; or it puts another name in the
 -- place of one.
 pub data IsAction (uri : List ℕ) (found : OpenText) : Data → Type 0 where
   mends : (versioned : Bool) (title : List ℕ) (changes : List NumberedChange) (replacements : Vec Replacement Global) →
-      All Mends changes → AreReplacements One found.text changes (Ok replacements) →
+      All (Mends found.text) changes → AreReplacements One found.text changes (Ok replacements) →
       IsAction uri found (action_form title
       (workspace_edit_form versioned uri found (map (replacement_form found.text) replacements.items)))
   respells : (versioned : Bool) (title old new : List ℕ) (edit : Data) → is_name new ≡ true →

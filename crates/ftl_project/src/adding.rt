@@ -1,8 +1,5 @@
 //! What files are missing of those of a reference is added to them.
-ghost use Rattle.std.specs.Prelude.{◌≡◌, ◌≢◌, ◌⊎◌, ℕ, List, Err, IfOk, IfSome, map, string_bytes, true};
-ghost use Rattle.fluent_syntax_grammar.specs.RoundTrip.{tree_of};
-ghost use Rattle.fluent_syntax_grammar.specs.Tiling.{Tile, Tiling};
-ghost use Rattle.fluent_syntax_tree.specs.View.{entry_view};
+ghost use Rattle.std.specs.Prelude.{◌≡◌, ◌≢◌, ◌⊎◌, ℕ, List, Err, IfOk, IfSome, string_bytes, true};
 ghost use Rattle.ftl.specs.Watched.{has_failed};
 ghost use Rattle.ftl_files.specs.Store.{AllUnchanged};
 ghost use Rattle.ftl_project.specs.Adding.{AllGrow, Extends, IsExtended};
@@ -18,16 +15,15 @@ use crate::name_indexes::name_index;
 use crate::reporting::terminal_text::push_shown_text;
 use crate::streams::{Streams, note_line, report_fault};
 use crate::tally::{Tally, file_count};
-use fluent_syntax::ast::Resource;
-use fluent_syntax::parser::{Edition, parse_within, recovered};
+use fluent_syntax::parser::Edition;
 use fluent_syntax_edits::{EditFault, additions, edit_all};
 use fluent_syntax_names::{NameIndex, Side};
 use ftl::{RunFault, write_all};
-use ftl_files::{CommentRules, IgnoreRule, Reading, Store, missing_names};
+use ftl_files::{CommentRules, IgnoreRule, Reading, Store, addable_parts, added_names};
 use std::alloc::{AllocError, Global};
 use std::io::Write;
 
-/// What becomes of files that are missing messages or terms.
+/// What becomes of files that are missing messages, terms or attributes.
 #[derive(Clone, Copy, Debug, PartialEq, Eq)]
 pub enum Addition {
     /// They get them.
@@ -48,8 +44,8 @@ pub struct AddOptions {
 /// What was added, or would be.
 #[derive(Clone, Copy, Debug, PartialEq, Eq)]
 pub struct AddCounts {
-    /// Messages and terms.
-    pub entries: usize,
+    /// Messages, terms and attributes.
+    pub parts: usize,
     /// Files that get some.
     pub files: usize,
 }
@@ -57,16 +53,14 @@ pub struct AddCounts {
 impl AddCounts {
     /// Nothing.
     pub fn new() -> Self {
-        AddCounts {
-            entries: 0,
-            files: 0,
-        }
+        AddCounts { parts: 0, files: 0 }
     }
 }
 
-/// Adds to each translation the messages and terms of its reference that are reported as missing, where the order of
-/// the reference puts them; all else stays as it is. Where the new text would be read otherwise, the file is left, and
-/// that is reported. However the run ends, each file is as it was, or has entries of a reference more.
+/// Adds to each translation the messages, terms and attributes of its reference that are reported as missing, where the
+/// order of the reference puts them; all other entries stay as they are. Where the new text would be read otherwise,
+/// the file is left, and that is reported. However the run ends, each file is as it was, or has entries and attributes
+/// of a reference more.
 ///
 /// `Err` where the run stopped: `Memory`, or `Output`.
 pub fn add_missing<S: Store, O: Write, E: Write>(
@@ -110,7 +104,7 @@ struct Extension {
     old: String,
     /// None where it is left as it is.
     new: Option<String>,
-    /// How many messages and terms are missing.
+    /// How many messages, terms and attributes are missing.
     missing: usize,
 }
 
@@ -214,12 +208,12 @@ fn extension_of(
     let missing = names.len();
     let new = match missing {
         0 => None,
-        _ => with_additions(alloc, reference, old.as_str(), &names, reading)?,
+        _ => with_additions(alloc, reference, old.as_str(), &names, reading.edition)?,
     };
     Ok(Extension { old, new, missing })
 }
 
-/// The names of the messages and terms that the text is missing.
+/// The names of the messages, terms and attributes that the text is missing.
 fn names_to_add(
     alloc: Global,
     reference: &str,
@@ -233,7 +227,8 @@ fn names_to_add(
         CommentRules::of(alloc, &theirs)?,
         CommentRules::of(alloc, &own)?,
     );
-    let names = missing_names(alloc, &theirs, &own, ignored)?;
+    let parts = addable_parts(alloc, &theirs, &own, ignored)?;
+    let names = added_names(alloc, reference, &parts)?;
     Ok(names)
 }
 
@@ -250,45 +245,21 @@ fn index_of<'t>(
     }
 }
 
-/// The text with the entries of the reference that have these names. None where it would be read otherwise.
+/// The text with what the reference has of these names. None where it would be read otherwise.
 fn with_additions(
     alloc: Global,
     reference: &str,
     text: &str,
     names: &[String],
-    reading: Reading,
+    edition: Edition,
 ) -> Result<Option<String>, AllocError>
     ensures { IfOk result (λ new. IfSome new
-        (λ new. IsExtended reading.edition reference.now text.now (string_bytes new))) }
+        (λ new. IsExtended edition reference.now text.now (string_bytes new))) }
 {
-    let Some(theirs) = tree_of_text(alloc, reference, reading)? else {
-        return Ok(None);
-    };
-    let Some(own) = tree_of_text(alloc, text, reading)? else {
-        return Ok(None);
-    };
-    let edits = additions(alloc, &theirs, &own, names)?;
-    match edit_all(alloc, text, reading.edition, &edits) {
+    let edits = additions(alloc, reference, text, edition, names)?;
+    match edit_all(alloc, text, edition, &edits) {
         Ok(new) => Ok(Some(new)),
         Err(EditFault::Memory) => Err(AllocError),
-        Err(_) => Ok(None),
-    }
-}
-
-/// The tree that the text is read as, with its junk. None where it nests too deeply.
-fn tree_of_text(
-    alloc: Global,
-    text: &str,
-    reading: Reading,
-) -> Result<Option<Resource<&str>>, AllocError>
-    ensures { let t = text.now in IfOk result (λ found. IfSome found (λ tree. (tiles : List Tile)
-        × Tiling reading.edition t tiles × (map (entry_view (λ s. s.now)) tree.body.items ≡ tree_of t tiles))) }
-{
-    match parse_within(alloc, text, reading.edition, reading.nesting) {
-        Ok(answer) => {
-            let (tree, _errors) = recovered(alloc, answer)?;
-            Ok(Some(tree))
-        }
         Err(_) => Ok(None),
     }
 }
@@ -312,7 +283,7 @@ fn report_extension<O: Write, E: Write>(
     tally.count(0, 0, is_left);
     if extension.new.is_some() {
         counts.files = counts.files.saturating_add(1);
-        counts.entries = counts.entries.saturating_add(extension.missing);
+        counts.parts = counts.parts.saturating_add(extension.missing);
     }
     let path = pair.other.as_str();
     match shown_extension(alloc, path, extension, addition) {
@@ -354,7 +325,8 @@ fn left_note(alloc: Global, path: &str, extension: &Extension) -> Result<String,
 }
 
 /// What a run met that adds what is missing, as a line with its LF: `57 files, nothing is missing`, or
-/// `12 messages and terms added to 3 of 57 files`; where nothing is written, `missing in` in place of `added to`.
+/// `12 messages, terms and attributes added to 3 of 57 files`; where nothing is written, `missing in` in place of
+/// `added to`.
 ///
 /// `AllocError`: a growth was refused.
 pub fn add_summary(
@@ -364,14 +336,14 @@ pub fn add_summary(
     addition: Addition,
 ) -> Result<String, AllocError> {
     let all = file_count(alloc, tally.files)?;
-    let AddCounts { entries, files } = *counts;
+    let AddCounts { parts, files } = *counts;
     let done = match addition {
         Addition::Write => "added to",
         Addition::Name | Addition::Show => "missing in",
     };
-    match entries {
+    match parts {
         0 if tally.with_problems == 0 => format!(in alloc; "{all}, nothing is missing\n"),
-        1 => format!(in alloc; "1 message or term {done} {files} of {all}\n"),
-        _ => format!(in alloc; "{entries} messages and terms {done} {files} of {all}\n"),
+        1 => format!(in alloc; "1 message, term or attribute {done} {files} of {all}\n"),
+        _ => format!(in alloc; "{parts} messages, terms and attributes {done} {files} of {all}\n"),
     }
 }

@@ -6,8 +6,8 @@ use crate::documents::occurrences::{bytes_of, is_name_byte};
 use crate::documents::positions::{Position, PositionRange, Positions, START};
 use crate::workspace::originals::Original;
 use fluent_syntax::spans::Span;
-use fluent_syntax_names::{Difference, MissingPart, Side, missing_parts, shown_name};
-use ftl_files::{CommentRules, IgnoreRule, ReportedKind, is_ignored, is_part_left_out};
+use fluent_syntax_names::{Difference, MissingPart, Side, missing_parts};
+use ftl_files::{CommentRules, IgnoreRule, is_part_reported};
 use std::alloc::{AllocError, Global};
 
 /// What the original has and the document lacks, in the order of the original, and then what the document has and the
@@ -142,20 +142,15 @@ fn extra_of<'u>(
 }
 
 /// What is reported of a part that the file of this side has and the other one lacks.
-pub fn reported_difference(
+fn reported_difference(
     ignored: &[IgnoreRule],
     side: Side,
     own: &CommentRules<'_, '_>,
     other: &CommentRules<'_, '_>,
     missing: &MissingPart,
 ) -> Option<Difference> {
-    let difference = side.difference(missing.part)?;
-    let kind = ReportedKind::Difference(difference);
-    let name = shown_name(own.name_index.text, missing.name);
-    if is_ignored(ignored, kind, name) || is_part_left_out(side, own, other, missing, kind, name) {
-        return None;
-    }
-    Some(difference)
+    side.difference(missing.part)
+        .filter(|_| is_part_reported(ignored, side, own, other, missing))
 }
 
 /// Where a text begins.

@@ -2,10 +2,10 @@
 ghost use Rattle.std.specs.Prelude.{◌≡◌, IfOk};
 ghost use Rattle.ftl_project.specs.Comparing.{is_file_error, is_file_warning};
 ghost use Rattle.ftl_project.specs.Differences.{counts_as_error, counts_as_warning, is_error_kind};
-ghost use Rattle.ftl_project.specs.Differences.{is_error_severity, is_part_reported, is_reported, reported_parts};
+ghost use Rattle.ftl_project.specs.Differences.{is_error_severity, is_reported, reported_parts};
 
-use fluent_syntax_names::{MissingPart, Part, Severity, Side, shown_name};
-use ftl_files::{CommentRules, IgnoreRule, Levels, ReportedKind, is_ignored, is_part_left_out};
+use fluent_syntax_names::{MissingPart, Part, Severity, Side};
+use ftl_files::{CommentRules, IgnoreRule, Levels, ReportedKind, is_ignored, is_part_reported};
 use std::alloc::{AllocError, Global};
 
 /// Whether a part that the file of this side has and the other one lacks is reported as an error.
@@ -45,27 +45,6 @@ pub(crate) fn reported_parts(
         .copied()
         .filter(|missing| is_part_reported(ignored, side, own, other, missing))
         .collect(alloc)
-}
-
-/// Whether a part that the file of this side has and the other one lacks is reported.
-fn is_part_reported(
-    ignored: &[IgnoreRule],
-    side: Side,
-    own: &CommentRules<'_, '_>,
-    other: &CommentRules<'_, '_>,
-    missing: &MissingPart,
-) -> bool
-    ensures { result ≡ is_part_reported ignored.now side own.now.name_index.now other.now.name_index.now missing.now }
-{
-    match side.difference(missing.part) {
-        Some(difference) => {
-            let kind = ReportedKind::Difference(difference);
-            let name = shown_name(own.name_index.text, missing.name);
-            is_reported(ignored, kind, name)
-                && !is_part_left_out(side, own, other, missing, kind, name)
-        }
-        None => true,
-    }
 }
 
 /// Whether no rule leaves out what is of the kind and has the name.

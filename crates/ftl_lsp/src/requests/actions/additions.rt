@@ -1,27 +1,24 @@
 //! What a document's original has and the document is to get.
-ghost use Rattle.std.specs.Prelude.{◌≡◌, ℕ, List, All, IfOk, map};
+ghost use Rattle.std.specs.Prelude.{All, IfOk, map};
 ghost use Rattle.serde_json.specs.View.{view};
-ghost use Rattle.fluent_syntax_grammar.specs.RoundTrip.{tree_of};
-ghost use Rattle.fluent_syntax_grammar.specs.Tiling.{Tile, Tiling};
-ghost use Rattle.fluent_syntax_tree.specs.View.{entry_view};
-ghost use Rattle.fluent_syntax_tree.specs.declared.edition.Edition.TheVariants.{One};
 ghost use Rattle.ftl_lsp.specs.Actions.{IsAction};
 ghost use Rattle.ftl_lsp.specs.OpenDocuments.{open_text};
 
-use crate::documents::trees::tree_of_text;
 use crate::requests::actions::mended_document::MendedDocument;
 use crate::workspace::originals::Original;
-use fluent_syntax::ast::Resource;
+use fluent_syntax::parser::Edition;
 use fluent_syntax_edits::additions;
-use ftl_files::{CommentRules, IgnoreRule, missing_names};
+use fluent_syntax_names::MissingPart;
+use ftl_files::{CommentRules, IgnoreRule, addable_parts, added_names};
 use serde_json::Value;
 use std::alloc::{AllocError, Global};
 
-/// How many entries can be added one by one.
+/// How many messages and terms can be added one by one, and how many attributes.
 const SINGLE_ADDITIONS: usize = 10;
 
-/// Where the document's first line is asked of: the actions that add what it is missing of its original, all together
-/// and the first ones each by itself. `AllocError` where a growth was refused.
+/// The actions that add what the document is missing of its original: where its first line is asked of, all together
+/// and the first messages and terms each by itself; where the name of an entry is, the first of its attributes.
+/// `AllocError` where a growth was refused.
 pub fn addition_list(
     mended: &MendedDocument<'_>,
     own: &CommentRules<'_, '_>,
@@ -31,20 +28,24 @@ pub fn addition_list(
     ensures { IfOk result
         (λ list. All (IsAction mended.now.uri.now (open_text mended.now.open.now)) (map view list.items)) }
 {
-    let alloc = mended.alloc;
+    let mut list = Vec::new(mended.alloc);
     let Some(original) = original else {
-        return Ok(Vec::new(alloc));
+        return Ok(list);
     };
-    let choices = choices(mended, own, original, ignored)?;
-    if choices.is_empty() {
-        return Ok(Vec::new(alloc));
+    let text = mended.open.document.text();
+    for choice in &choices(mended, own, original, ignored)? {
+        let edits = additions(
+            mended.alloc,
+            original.name_index.text,
+            text,
+            Edition::One,
+            &choice.names,
+        )?;
+        if let Some(action) = mended.action_of(choice.title.as_str(), &edits)? {
+            list.push(action)?;
+        }
     }
-    let reference = tree_of_text(alloc, original.name_index.text)?;
-    let tree = tree_of_text(alloc, mended.open.document.text())?;
-    match (reference, tree) {
-        (Some(reference), Some(tree)) => additions_of(mended, &reference, &tree, &choices),
-        _ => Ok(Vec::new(alloc)),
-    }
+    Ok(list)
 }
 
 /// What one action adds.
@@ -55,7 +56,8 @@ struct Choice {
     names: Vec<String>,
 }
 
-/// What can be added: all that is missing, and then the first entries each by itself.
+/// What can be added: all that is missing; then the first messages and terms, and the first attributes of the entries
+/// that are asked of, each by itself.
 fn choices(
     mended: &MendedDocument<'_>,
     own: &CommentRules<'_, '_>,
@@ -63,49 +65,47 @@ fn choices(
     ignored: &[IgnoreRule],
 ) -> Result<Vec<Choice>, AllocError> {
     let alloc = mended.alloc;
-    let mut choices = Vec::new(alloc);
-    if !is_in_first_line(mended) {
-        return Ok(choices);
-    }
+    let text = original.name_index.text;
     let theirs = CommentRules::of(alloc, &original.name_index)?;
-    let names = missing_names(alloc, &theirs, own, ignored)?;
-    for name in names.iter().take(SINGLE_ADDITIONS) {
-        let mut single = Vec::new(alloc);
-        single.push(String::from_str(alloc, name.as_str())?)?;
-        choices.push(Choice {
-            title: format!(in alloc; "Add `{name}`")?,
-            names: single,
-        })?;
+    let parts = addable_parts(alloc, &theirs, own, ignored)?;
+    let is_first = is_in_first_line(mended);
+    let (mut entries, mut attributes) = (Vec::new(alloc), Vec::new(alloc));
+    for part in &parts {
+        match part.in_other {
+            None if is_first => entries.push(*part)?,
+            Some(name) if mended.asks_of(name) => attributes.push(*part)?,
+            _ => {}
+        }
     }
+    let mut choices = Vec::new(alloc);
+    let names = added_names(alloc, text, &parts)?;
     let count = names.len();
-    if count > 1 {
-        let title = format!(in alloc; "Add all {count} missing messages and terms")?;
-        choices.insert(0, Choice { title, names })?;
+    if is_first && count > 1 {
+        let title = format!(in alloc; "Add all {count} missing messages, terms and attributes")?;
+        choices.push(Choice { title, names })?;
     }
+    add_single_choices(alloc, &mut choices, text, &entries)?;
+    add_single_choices(alloc, &mut choices, text, &attributes)?;
     Ok(choices)
 }
 
-/// The actions that add to the tree the entries of the reference that are chosen.
-fn additions_of(
-    mended: &MendedDocument<'_>,
-    reference: &Resource<&str>,
-    tree: &Resource<&str>,
-    choices: &[Choice],
-) -> Result<Vec<Value>, AllocError>
-    requires { (t : List ℕ) × (tiles : List Tile) × Tiling One t tiles
-        × (map (entry_view (λ s. s.now)) reference.now.body.items ≡ tree_of t tiles) }
-    ensures { IfOk result
-        (λ list. All (IsAction mended.now.uri.now (open_text mended.now.open.now)) (map view list.items)) }
-{
-    let alloc = mended.alloc;
-    let mut list = Vec::new(alloc);
-    for choice in choices {
-        let edits = additions(alloc, reference, tree, &choice.names)?;
-        if let Some(action) = mended.action_of(choice.title.as_str(), &edits)? {
-            list.push(action)?;
-        }
+/// Adds the first of these parts of the original's text, each by itself.
+fn add_single_choices(
+    alloc: Global,
+    choices: &mut Vec<Choice>,
+    text: &str,
+    parts: &[MissingPart],
+) -> Result<(), AllocError> {
+    for name in added_names(alloc, text, parts)?
+        .into_iter()
+        .take(SINGLE_ADDITIONS)
+    {
+        let title = format!(in alloc; "Add `{name}`")?;
+        let mut names = Vec::new(alloc);
+        names.push(name)?;
+        choices.push(Choice { title, names })?;
     }
-    Ok(list)
+    Ok(())
 }
 
 /// Whether a place in the document's first line is asked of.

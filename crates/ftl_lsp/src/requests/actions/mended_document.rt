@@ -40,7 +40,8 @@ impl MendedDocument<'_> {
         title: &str,
         edits: &[NumberedEdit],
     ) -> Result<Option<Value>, AllocError>
-        ensures { All Mends (map numbered_change edits.now) → IfOk result (λ found. IfSome found
+        ensures { All (Mends (open_text self.now.open.now).text) (map numbered_change edits.now) → IfOk result
+            (λ found. IfSome found
             (λ value. IsAction self.now.uri.now (open_text self.now.open.now) (view value))) }
     {
         let text = self.open.document.text();

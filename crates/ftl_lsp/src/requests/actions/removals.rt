@@ -4,14 +4,13 @@ ghost use Rattle.serde_json.specs.View.{view};
 ghost use Rattle.ftl_lsp.specs.Actions.{IsAction};
 ghost use Rattle.ftl_lsp.specs.OpenDocuments.{open_text};
 
-use crate::diagnostics::differences::reported_difference;
 use crate::documents::entry_ranges::entry_number_at;
 use crate::requests::actions::mended_document::MendedDocument;
 use crate::workspace::originals::Original;
 use fluent_syntax::spans::Span;
 use fluent_syntax_edits::NumberedEdit;
 use fluent_syntax_names::{Finding, Kind, Part, Side, missing_parts, shown_name};
-use ftl_files::{CommentRules, IgnoreRule};
+use ftl_files::{CommentRules, IgnoreRule, is_part_reported};
 use serde_json::Value;
 use std::alloc::AllocError;
 use std::slice::from_ref;
@@ -48,7 +47,7 @@ fn obsolete_names(
     for extra in &missing_parts(mended.alloc, own.name_index, &original.name_index)? {
         if matches!(extra.part, Part::Entry)
             && mended.asks_of(extra.name)
-            && reported_difference(ignored, Side::Other, own, &theirs, extra).is_some()
+            && is_part_reported(ignored, Side::Other, own, &theirs, extra)
         {
             names.push(extra.name)?;
         }

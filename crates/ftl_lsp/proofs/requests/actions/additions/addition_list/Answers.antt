@@ -4,18 +4,19 @@ use Rattle.serde_json.specs.View.{view}
 use Rattle.serde_json.specs.declared.value.Value.{Value}
 use Rattle.ftl_lsp.specs.Actions.{IsAction, Mends}
 use Rattle.ftl_lsp.specs.OpenDocuments.{open_text}
-use Rattle.ftl_lsp.proofs.ActionLemmas.{additions_of_read_tree_mend}
+use Rattle.ftl_lsp.proofs.ActionLemmas.{additions_mend}
 use Rattle.ftl_lsp.proofs.RenamingLemmas.{All-append_value}
-use Rattle.ftl_lsp.proofs.requests.actions.additions.additions_of.Goals as goal
-use Rattle.ftl_lsp.proofs.requests.actions.additions.additions_of.Goals.{in-Some+in_ok-push, in_default}
+use Rattle.ftl_lsp.proofs.requests.actions.additions.addition_list.Goals as goal
+use Rattle.ftl_lsp.proofs.requests.actions.additions.addition_list.Goals.{in-Some+in_ok-push, in_default}
 
 pub loop-choice-preserved : goal.loop-choice-preserved
 loop-choice-preserved c =
-    let is_action = IsAction c.args.mended.now.uri.now (open_text c.args.mended.now.open.now) in
-    let read = c.requires in
-    let added = additions_of_read_tree_mend read.0 read.1 _ _ read.2 read.3 c.in_ok-edits.ensures in
+    let found = open_text c.args.mended.now.open.now in
+    let is_action = IsAction c.args.mended.now.uri.now found in
+    let added = additions_mend _ _ _ (rw c.text-text.ensures at c.in_ok-edits.ensures) in
     let mends =
-    subst (λ edits. All Mends (map numbered_change edits)) (sym c.deref-in-loop-choice.ensures.value) added in
+    subst (λ edits. All (Mends found.text) (map numbered_change edits)) (sym c.deref-in-loop-choice.ensures.value) added
+    in
     elim c.match-branch-3.branch [
       | in-Some+in_ok-push w ↦
           All-append_value is_action _ _ _ (ap (λ v. v.items) w.list-is ∙ w.in_ok-push.ensures.items)
