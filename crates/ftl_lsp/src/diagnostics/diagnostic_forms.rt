@@ -5,7 +5,8 @@ ghost use Rattle.fluent_syntax_names.specs.declared.finding.Severity.TheVariants
 ghost use Rattle.ftl_lsp.specs.DiagnosticForms.{IsLintDiagnostic, begin, code_of, count_list, diagnostic_form};
 ghost use Rattle.ftl_lsp.specs.DiagnosticForms.{diagnostic_with_related};
 ghost use Rattle.ftl_lsp.specs.DiagnosticForms.{error_alone, error_form, note_form, related_form};
-ghost use Rattle.ftl_lsp.specs.DiagnosticForms.{is_faded, reported_kind, severity_number, severity_of, tagged, unnecessary};
+ghost use Rattle.ftl_lsp.specs.DiagnosticForms.{is_faded, reported_kind, severity_number, severity_of, tagged};
+ghost use Rattle.ftl_lsp.specs.DiagnosticForms.{unnecessary};
 
 use crate::diagnostics::{Diagnostic, RelatedNote};
 use crate::documents::positions::{Position, PositionRange};

@@ -1,4 +1,5 @@
-use Rattle.std.proofs.Common.{◌≡◌, ◌∙◌, BTreeMap, Bool, Global, List, String, ap, codes, string_bytes, string_cmp, sym, true, ℕ}
+use Rattle.std.proofs.Common.{◌≡◌, ◌∙◌, BTreeMap, Bool, Global, List, String, ap, codes, string_bytes, string_cmp, sym}
+use Rattle.std.proofs.Common.{true, ℕ}
 use Rattle.std.specs.BTreeMap.{insert_entry}
 use Rattle.std.specs.Prelude.{if◌then◌else◌}
 use Rattle.serde_json.proofs.Views.{members_view-insert_entry, view-Object}
@@ -9,8 +10,8 @@ use Rattle.ftl_lsp.specs.DiagnosticForms.{is_faded, tagged, unnecessary, with_ta
 use Rattle.ftl_lsp.specs.declared.diagnostics.diagnostic_forms.LintDiagnosticKind.{LintDiagnosticKind}
 use Rattle.ftl_lsp.proofs.diagnostics.diagnostic_forms.tagged.Goals as goal
 
-object_with_tags_is_tagged : (kind : LintDiagnosticKind) (form tags : Value) (before after : BTreeMap (String Global) Value)
-    (key : String Global) → is_faded kind ≡ true → form ≡ Object before →
+object_with_tags_is_tagged : (kind : LintDiagnosticKind) (form tags : Value)
+    (before after : BTreeMap (String Global) Value) (key : String Global) → is_faded kind ≡ true → form ≡ Object before →
     after.entries ≡ insert_entry string_cmp before.entries key tags → string_bytes key ≡ codes "tags" →
     view tags ≡ unnecessary → view (Object after) ≡ tagged kind (view form)
 object_with_tags_is_tagged kind form tags before after key faded is inserted named tagging =
