@@ -107,13 +107,16 @@ is_faded (Difference Obsolete) = true
 is_faded (Difference ObsoleteAttribute) = true
 is_faded kind = false
 
--- with the protocol's tag of what is unnecessary, which editors fade
-abbrev pub with_tag : Data → Data
-with_tag (object members) = object (put (codes "tags") (array (item (number (unsigned 1)) no_items)) members)
-with_tag form = form
+-- the protocol's tags of what is unnecessary, which editors fade
+abbrev pub unnecessary : Data
+unnecessary = array (item (number (unsigned 1)) no_items)
+
+abbrev pub with_tags : Data → Data
+with_tags (object members) = object (put (codes "tags") unnecessary members)
+with_tags form = form
 
 abbrev pub tagged : LintDiagnosticKind → (form : Data) → Data
-tagged kind form = if is_faded kind then with_tag form else form
+tagged kind form = if is_faded kind then with_tags form else form
 
 -- The diagnostic of a finding, or of a difference from the original, as grave as some settings say; or, at the text's
 -- begin, that its file is left out where names are looked for.

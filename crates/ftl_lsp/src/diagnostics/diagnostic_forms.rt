@@ -6,6 +6,7 @@ ghost use Rattle.ftl_lsp.specs.DiagnosticForms.{IsLintDiagnostic, begin, code_of
 ghost use Rattle.ftl_lsp.specs.DiagnosticForms.{diagnostic_with_related};
 ghost use Rattle.ftl_lsp.specs.DiagnosticForms.{error_alone, error_form, note_form, related_form};
 ghost use Rattle.ftl_lsp.specs.DiagnosticForms.{is_faded, reported_kind, severity_number, severity_of, tagged};
+ghost use Rattle.ftl_lsp.specs.DiagnosticForms.{unnecessary};
 
 use crate::diagnostics::{Diagnostic, RelatedNote};
 use crate::documents::positions::{Position, PositionRange};
@@ -195,7 +196,14 @@ fn lint_diagnostic_form(
     tagged(alloc, diagnostic.kind, form)
 }
 
-/// The diagnostic, with the tag of what is unnecessary where editors are to fade it.
+/// The tags of what is unnecessary.
+fn unnecessary(alloc: Global) -> Result<Value, AllocError>
+    ensures { IfOk result (λ value. view value ≡ unnecessary) }
+{
+    json!(in alloc; [1])
+}
+
+/// The diagnostic, with these where editors are to fade it.
 fn tagged(alloc: Global, kind: LintDiagnosticKind, form: Value) -> Result<Value, AllocError>
     ensures { IfOk result (λ value. view value ≡ tagged kind (view form)) }
 {
@@ -204,7 +212,7 @@ fn tagged(alloc: Global, kind: LintDiagnosticKind, form: Value) -> Result<Value,
     }
     match form {
         Value::Object(mut members) => {
-            let tags = json!(in alloc; [1])?;
+            let tags = unnecessary(alloc)?;
             drop(members.insert(String::from_str(alloc, "tags")?, tags)?);
             Ok(Value::Object(members))
         }

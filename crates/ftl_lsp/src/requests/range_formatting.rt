@@ -1,5 +1,6 @@
 //! The formatted entries of a range of a document.
-ghost use Rattle.std.specs.Prelude.{◌≡◌, List, All, IfOk, IfSome, OnOk, Ok, is_some, map, option_and_then, string_bytes};
+ghost use Rattle.std.specs.Prelude.{◌≡◌, List, All, IfOk, IfSome, OnOk, Ok, is_some, map, option_and_then};
+ghost use Rattle.std.specs.Prelude.{string_bytes};
 ghost use Rattle.serde_json.specs.View.{view};
 ghost use Rattle.fluent_syntax_edits.specs.SeveralEdits.{AreReplacements, NumberedChange, numbered_change};
 ghost use Rattle.fluent_syntax_grammar.specs.RoundTrip.{tree_of};
