@@ -28,24 +28,11 @@ pub fn addition_list(
     ensures { IfOk result
         (λ list. All (IsAction mended.now.uri.now (open_text mended.now.open.now)) (map view list.items)) }
 {
-    let mut list = Vec::new(mended.alloc);
     let Some(original) = original else {
-        return Ok(list);
+        return Ok(Vec::new(mended.alloc));
     };
-    let text = mended.open.document.text();
-    for choice in &choices(mended, own, original, ignored)? {
-        let edits = additions(
-            mended.alloc,
-            original.name_index.text,
-            text,
-            Edition::One,
-            &choice.names,
-        )?;
-        if let Some(action) = mended.action_of(choice.title.as_str(), &edits)? {
-            list.push(action)?;
-        }
-    }
-    Ok(list)
+    let choices = choices(mended, own, original, ignored)?;
+    additions_of(mended, original.name_index.text, &choices)
 }
 
 /// What one action adds.
@@ -106,6 +93,27 @@ fn add_single_choices(
         choices.push(Choice { title, names })?;
     }
     Ok(())
+}
+
+/// The actions that add to the document what is chosen of the reference.
+fn additions_of(
+    mended: &MendedDocument<'_>,
+    reference: &str,
+    choices: &[Choice],
+) -> Result<Vec<Value>, AllocError>
+    ensures { IfOk result
+        (λ list. All (IsAction mended.now.uri.now (open_text mended.now.open.now)) (map view list.items)) }
+{
+    let alloc = mended.alloc;
+    let text = mended.open.document.text();
+    let mut list = Vec::new(alloc);
+    for choice in choices {
+        let edits = additions(alloc, reference, text, Edition::One, &choice.names)?;
+        if let Some(action) = mended.action_of(choice.title.as_str(), &edits)? {
+            list.push(action)?;
+        }
+    }
+    Ok(list)
 }
 
 /// Whether a place in the document's first line is asked of.

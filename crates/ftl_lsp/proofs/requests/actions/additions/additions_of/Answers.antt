@@ -6,8 +6,8 @@ use Rattle.ftl_lsp.specs.Actions.{IsAction, Mends}
 use Rattle.ftl_lsp.specs.OpenDocuments.{open_text}
 use Rattle.ftl_lsp.proofs.ActionLemmas.{additions_mend}
 use Rattle.ftl_lsp.proofs.RenamingLemmas.{All-append_value}
-use Rattle.ftl_lsp.proofs.requests.actions.additions.addition_list.Goals as goal
-use Rattle.ftl_lsp.proofs.requests.actions.additions.addition_list.Goals.{in-Some+in_ok-push, in_default}
+use Rattle.ftl_lsp.proofs.requests.actions.additions.additions_of.Goals as goal
+use Rattle.ftl_lsp.proofs.requests.actions.additions.additions_of.Goals.{in-Some+in_ok-push, in_default}
 
 pub loop-choice-preserved : goal.loop-choice-preserved
 loop-choice-preserved c =
