@@ -132,7 +132,7 @@ fn rewriting_edits(
     Ok(edits)
 }
 
-/// The numbers of the entries that are written otherwise than they are, but for line ends after them.
+/// The numbers of the entries of which a line is written otherwise than it is.
 fn changing(
     alloc: Global,
     text: &str,
@@ -141,10 +141,20 @@ fn changing(
 ) -> Result<Vec<usize>, AllocError> {
     let mut changing = Vec::new(alloc);
     for (number, replacement) in numbers.iter().zip(found) {
-        let old = bytes_of(text, replacement.span).trim_end_matches('\n');
-        if old != replacement.text.as_str().trim_end_matches('\n') {
+        if !has_lines_of(bytes_of(text, replacement.span), replacement.text.as_str()) {
             changing.push(*number)?;
         }
     }
     Ok(changing)
+}
+
+/// Whether both have the same lines, but for line ends and for blank lines after them.
+fn has_lines_of(old: &str, new: &str) -> bool {
+    let line_ends = ['\n', '\r'];
+    let (old, new) = (
+        old.trim_end_matches(line_ends),
+        new.trim_end_matches(line_ends),
+    );
+    old.lines().count() == new.lines().count()
+        && old.lines().zip(new.lines()).all(|(old, new)| old == new)
 }

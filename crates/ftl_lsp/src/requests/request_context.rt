@@ -64,30 +64,28 @@ impl RequestContext<'_> {
     }
 
     /// Where the name at the place is defined: if it is defined there, in the original, and else, or if that doesn't
-    /// define it, in the documents and files that are nearest; null where there is no name. `AllocError` where a growth
-    /// was refused.
+    /// define it, in the documents and files that are nearest; where none does, in the original; null where there is no
+    /// name. `AllocError` where a growth was refused.
     pub fn definitions(&self, alloc: Global) -> Result<Value, AllocError> {
         let Some(name) = self.name() else {
             return Ok(Value::Null);
         };
+        let filter = OccurrenceFilter::Definitions;
+        let mut theirs = Vec::new(alloc);
+        if let Some(original) = &self.original {
+            add_locations(alloc, &mut theirs, original, name, filter)?;
+        }
+        if self.is_definition() && !theirs.is_empty() {
+            return Ok(Value::Array(theirs));
+        }
         let mut list = Vec::new(alloc);
-        if let (Some(original), true) = (&self.original, self.is_definition()) {
-            let filter = OccurrenceFilter::Definitions;
-            add_locations(alloc, &mut list, original, name, filter)?;
-        }
-        if !list.is_empty() {
-            return Ok(Value::Array(list));
-        }
         for number in self.nearest(alloc, name)?.iter() {
             if let Some(document) = self.documents.get(*number) {
-                add_locations(
-                    alloc,
-                    &mut list,
-                    document,
-                    name,
-                    OccurrenceFilter::Definitions,
-                )?;
+                add_locations(alloc, &mut list, document, name, filter)?;
             }
+        }
+        if list.is_empty() {
+            return Ok(Value::Array(theirs));
         }
         Ok(Value::Array(list))
     }

@@ -12,6 +12,7 @@ use fluent_syntax_names::MissingPart;
 use ftl_files::{CommentRules, IgnoreRule, addable_parts, added_names};
 use serde_json::Value;
 use std::alloc::{AllocError, Global};
+use std::slice::from_ref;
 
 /// How many messages and terms can be added one by one, and how many attributes.
 const SINGLE_ADDITIONS: usize = 10;
@@ -76,21 +77,19 @@ fn choices(
     Ok(choices)
 }
 
-/// Adds the first of these parts of the original's text, each by itself.
+/// Adds the first of these parts of the original's text, each by itself, in their order.
 fn add_single_choices(
     alloc: Global,
     choices: &mut Vec<Choice>,
     text: &str,
     parts: &[MissingPart],
 ) -> Result<(), AllocError> {
-    for name in added_names(alloc, text, parts)?
-        .into_iter()
-        .take(SINGLE_ADDITIONS)
-    {
-        let title = format!(in alloc; "Add `{name}`")?;
-        let mut names = Vec::new(alloc);
-        names.push(name)?;
-        choices.push(Choice { title, names })?;
+    for part in parts.iter().take(SINGLE_ADDITIONS) {
+        let names = added_names(alloc, text, from_ref(part))?;
+        if let Some(name) = names.first() {
+            let title = format!(in alloc; "Add `{name}`")?;
+            choices.push(Choice { title, names })?;
+        }
     }
     Ok(())
 }

@@ -35,7 +35,7 @@ pub fn removed_names(
     Ok(names)
 }
 
-/// The names of the messages and terms in the range that the original doesn't have.
+/// The names of the messages and terms in the range that the original doesn't have, not even as junk.
 fn obsolete_names(
     mended: &MendedDocument<'_>,
     own: &CommentRules<'_, '_>,
@@ -46,6 +46,7 @@ fn obsolete_names(
     let mut names = Vec::new(mended.alloc);
     for extra in &missing_parts(mended.alloc, own.name_index, &original.name_index)? {
         if matches!(extra.part, Part::Entry)
+            && !extra.is_junk()
             && mended.asks_of(extra.name)
             && is_part_reported(ignored, Side::Other, own, &theirs, extra)
         {

@@ -34,14 +34,14 @@ impl Server {
     ) -> Result<Vec<Respelling>, AllocError> {
         let mut found = Vec::new(self.alloc);
         for finding in findings {
-            match (undefined_kind(finding.kind), finding.place) {
-                (Some(kind), Some(span)) if mended.asks_of(span) => {
+            if let (Some(kind), Some(span)) = (undefined_kind(finding.kind), finding.place) {
+                let mark = if kind == NameKind::Term { "-" } else { "" };
+                let start = span.start.saturating_sub(mark.len());
+                if mended.asks_of(Span { start, ..span }) {
                     if let Some(name) = self.nearest_to(mended, kind, span)? {
-                        let mark = if kind == NameKind::Term { "-" } else { "" };
                         found.push(Respelling { span, name, mark })?;
                     }
                 }
-                _ => {}
             }
         }
         Ok(found)
