@@ -22,7 +22,6 @@ use Rattle.ftl_lsp.specs.Locations.{range_form}
 use Rattle.ftl_lsp.specs.declared.diagnostics.Diagnostic.{Diagnostic}
 use Rattle.ftl_lsp.specs.declared.diagnostics.RelatedNote.{RelatedNote}
 use Rattle.ftl_lsp.specs.declared.documents.positions.PositionRange.{PositionRange}
-use Rattle.ftl_lsp.specs.declared.documents.positions.Position.{Position}
 use Rattle.ftl_lsp.specs.declared.diagnostics.diagnostic_forms.LintDiagnosticKind.{LintDiagnosticKind}
 use Rattle.ftl_lsp.specs.declared.diagnostics.diagnostic_forms.LintDiagnosticKind.TheVariants.{Difference, Finding}
 use Rattle.ftl_lsp.specs.declared.workspace.left_out.LeftOutReason.{LeftOutReason}

@@ -1,7 +1,7 @@
 use Rattle.std.proofs.Common.{◌∙◌, ap, subst, sym}
 use Rattle.std.proofs.lemmas.Result.{IfOk-weaker}
 use Rattle.serde_json.specs.View.{view}
-use Rattle.ftl_lsp.specs.DiagnosticForms.{IsLintDiagnostic, alone, code_of, severity_of, tagged, with_related}
+use Rattle.ftl_lsp.specs.DiagnosticForms.{IsLintDiagnostic, alone, severity_of, tagged, with_related}
 use Rattle.ftl_lsp.specs.DiagnosticForms.{diagnostic_form, diagnostic_with_related}
 use Rattle.ftl_lsp.proofs.diagnostics.diagnostic_forms.lint_diagnostic_form.Goals as goal
 

@@ -1,4 +1,4 @@
-use Rattle.std.proofs.Common.{ap, inl, inr, rules, sym, List, Some, ◌∙◌, ℕ}
+use Rattle.std.proofs.Common.{ap, inl, inr, rules, sym, Some, ◌∙◌}
 use Rattle.std.proofs.lemmas.List.Elements.{All-push}
 use Rattle.std.proofs.lemmas.Map.Iter.{btree_map_turn}
 use Rattle.std.specs.Map.Iter.{deref_pair}

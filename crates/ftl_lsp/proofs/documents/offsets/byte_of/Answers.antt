@@ -1,4 +1,4 @@
-use Rattle.std.proofs.Common.{◌≡◌, ◌≤◌, ◌∙◌, sym, ap, subst, arith, length, slice_index, refl, true, false}
+use Rattle.std.proofs.Common.{◌≡◌, ◌≤◌, ◌∙◌, sym, ap, subst, arith, length, slice_index, true, false}
 use Rattle.ftl_lsp.specs.Positions.{character_at, position_at}
 use Rattle.ftl_lsp.specs.Offsets.{is_reached, IsByteOf}
 use Rattle.ftl_lsp.proofs.ByteLemmas.{IsAhead, line_is_ahead, is_at_text_end, line_start_is_place, still_ahead, there}

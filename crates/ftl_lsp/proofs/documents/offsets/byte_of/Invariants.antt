@@ -1,4 +1,4 @@
-use Rattle.std.proofs.Common.{◌≡◌, ◌≤◌}
+use Rattle.std.proofs.Common.{◌≡◌}
 use Rattle.ftl_lsp.specs.Positions.{position_at}
 use Rattle.ftl_lsp.proofs.ByteLemmas.{IsAhead}
 use Rattle.ftl_lsp.proofs.documents.offsets.byte_of.Given as goal
