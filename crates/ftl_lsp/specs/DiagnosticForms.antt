@@ -124,8 +124,7 @@ pub data IsLintDiagnostic : Data → Type 0 where
       IsLintDiagnostic (tagged kind (diagnostic_form range (severity_of levels kind) (code_of kind) message))
   with_related : (range : PositionRange) (levels : Levels) (kind : LintDiagnosticKind) (message : List ℕ)
       (positions : Data) →
-      IsLintDiagnostic
-      (tagged kind (diagnostic_with_related range (severity_of levels kind) (code_of kind) message positions))
+      IsLintDiagnostic (diagnostic_with_related range (severity_of levels kind) (code_of kind) message positions)
   left_out : (reason : LeftOutReason) →
       IsLintDiagnostic (diagnostic_form begin Warning (codes "left-out") (left_out_sentence (codes "the file") reason))
 

@@ -192,8 +192,8 @@ fn lint_diagnostic_form(
         return tagged(alloc, diagnostic.kind, alone);
     }
     let positions = related_list(alloc, &diagnostic.related)?;
-    let form = form_with_related(alloc, range, severity, code, message, positions)?;
-    tagged(alloc, diagnostic.kind, form)
+    // what has another place is junk there, and not to go
+    form_with_related(alloc, range, severity, code, message, positions)
 }
 
 /// The tags of what is unnecessary.

@@ -14,11 +14,10 @@ returns c =
     c.severity-severity.ensures in
     let with_code = ap (λ code. diagnostic_with_related diagnostic.range
     (severity_of c.args.levels diagnostic.kind) code message positions) c.code-code.ensures in
-    IfOk-weaker c.tagged-2.result _ _
-    (λ value is. subst IsLintDiagnostic
-    (sym (is ∙ ap (tagged diagnostic.kind) (c.in_ok-form.ensures ∙ (with_severity ∙ with_code))))
+    IfOk-weaker c.form_with_related.result _ _
+    (λ value is. subst IsLintDiagnostic (sym (is ∙ (with_severity ∙ with_code)))
     (with_related diagnostic.range c.args.levels diagnostic.kind message positions))
-    c.tagged-2.ensures
+    c.form_with_related.ensures
 
 pub returns-then-not-takes_related : goal.returns-then-not-takes_related
 returns-then-not-takes_related c =
