@@ -122,6 +122,8 @@ tagged kind form = if is_faded kind then with_tags form else form
 pub data IsLintDiagnostic : Data → Type 0 where
   alone : (range : PositionRange) (levels : Levels) (kind : LintDiagnosticKind) (message : List ℕ) →
       IsLintDiagnostic (tagged kind (diagnostic_form range (severity_of levels kind) (code_of kind) message))
+  without_related : (range : PositionRange) (levels : Levels) (kind : LintDiagnosticKind) (message : List ℕ) →
+      IsLintDiagnostic (diagnostic_form range (severity_of levels kind) (code_of kind) message)
   with_related : (range : PositionRange) (levels : Levels) (kind : LintDiagnosticKind) (message : List ℕ)
       (positions : Data) →
       IsLintDiagnostic (diagnostic_with_related range (severity_of levels kind) (code_of kind) message positions)

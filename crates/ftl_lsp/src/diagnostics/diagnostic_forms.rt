@@ -187,12 +187,15 @@ fn lint_diagnostic_form(
 {
     let (range, message) = (diagnostic.range, diagnostic.message.as_str());
     let (severity, code) = (diagnostic.kind.severity(levels), diagnostic.kind.code());
-    if !takes_related || diagnostic.related.is_empty() {
+    if diagnostic.related.is_empty() {
         let alone = diagnostic_form(alloc, range, severity, code, message)?;
         return tagged(alloc, diagnostic.kind, alone);
     }
-    let positions = related_list(alloc, &diagnostic.related)?;
     // what has another place is junk there, and not to go
+    if !takes_related {
+        return diagnostic_form(alloc, range, severity, code, message);
+    }
+    let positions = related_list(alloc, &diagnostic.related)?;
     form_with_related(alloc, range, severity, code, message, positions)
 }
 
