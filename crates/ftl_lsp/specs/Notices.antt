@@ -8,13 +8,14 @@ use Rattle.ftl_lsp.specs.DiagnosticForms.{severity_number}
 use Rattle.ftl_lsp.specs.LeftOut.{left_out_sentence}
 use Rattle.ftl_lsp.specs.declared.sessions.notices.Notice.{Notice}
 use Rattle.ftl_lsp.specs.declared.sessions.notices.Notice.TheVariants.{TooDeep, HasError, LeftOut, NotReadBack}
-use Rattle.ftl_lsp.specs.declared.sessions.notices.Notice.TheVariants.{WrongSettings}
+use Rattle.ftl_lsp.specs.declared.sessions.notices.Notice.TheVariants.{NotRenamed, WrongSettings}
 
 abbrev pub severity_of : Notice → Severity
 severity_of (TooDeep name) = Warning
 severity_of (HasError name line) = Warning
 severity_of (NotReadBack name) = Warning
 severity_of (LeftOut name reason) = Warning
+severity_of (NotRenamed name) = Warning
 severity_of (WrongSettings folder fault) = Error
 
 abbrev pub sentence_of : Notice → List ℕ
@@ -24,6 +25,7 @@ sentence_of (HasError name line) =
 sentence_of (NotReadBack name) =
     string_bytes name ++ codes " is not formatted: what would be written does not read back"
 sentence_of (LeftOut name reason) = left_out_sentence (string_bytes name) reason
+sentence_of (NotRenamed name) = string_bytes name ++ codes " is left out, so nothing is renamed there"
 sentence_of (WrongSettings folder fault) = string_bytes folder ++ (codes "/ftl.toml: " ++ string_bytes fault)
 
 -- the notification that shows it

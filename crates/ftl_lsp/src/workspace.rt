@@ -9,6 +9,7 @@ pub mod others;
 pub mod settings;
 pub mod workspace_folder;
 
+use crate::documents::index::Scope;
 use crate::documents::open_documents::OpenDocument;
 use crate::sessions::notices::Notice;
 use crate::workspace::closed_files::ClosedFile;
@@ -174,6 +175,24 @@ impl Workspace {
             }
         }
         None
+    }
+
+    /// A notice of each file that is left out of the scope, which a renaming is made in. `AllocError` where a growth was
+    /// refused.
+    pub fn unrenamed_notices(
+        &self,
+        alloc: Global,
+        scope: Scope<'_>,
+    ) -> Result<Vec<Notice>, AllocError> {
+        let mut notices = Vec::new(alloc);
+        for file in &self.left_out {
+            let path = file.path.as_str();
+            if scope.has(self, path) {
+                let shown = String::from_str(alloc, self.display_path(path))?;
+                add_notice(&mut notices, Notice::NotRenamed(shown))?;
+            }
+        }
+        Ok(notices)
     }
 
     /// Whether all files are known that may define what a file at the path refers to: it is below one of the

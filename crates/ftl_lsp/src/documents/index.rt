@@ -50,7 +50,7 @@ pub enum Scope<'p> {
 
 impl Scope<'_> {
     /// Whether the file at the path is one of them.
-    fn has(self, workspace: &Workspace, path: &str) -> bool {
+    pub(crate) fn has(self, workspace: &Workspace, path: &str) -> bool {
         match self {
             Scope::All => true,
             Scope::Set(set) => workspace.set_of(path) == set,

@@ -1,11 +1,11 @@
 //! What a request asks of a place in an open document.
-ghost use Rattle.std.specs.Prelude.{◌≡◌, is_some, true, IfErr, IfOk, IfSome, Some};
+ghost use Rattle.std.specs.Prelude.{◌≡◌, is_some, true, IfErr, IfOk, IfSome, OnOk, Some};
 ghost use Rattle.serde_json.specs.View.{view};
 ghost use Rattle.ftl_lsp.specs.Asking.{names_position, renames_position};
 ghost use Rattle.ftl_lsp.specs.Contexts.{IsContextOf};
 ghost use Rattle.ftl_lsp.specs.OpenDocuments.{texts};
 ghost use Rattle.ftl_lsp.specs.Renaming.{RenamesName};
-ghost use Rattle.ftl_lsp.specs.Sessions.{RefusesFor};
+ghost use Rattle.ftl_lsp.specs.Sessions.{RefusesFor, session_of};
 
 use crate::documents::index::{IndexedDocument, Scope, indexed_document_at, indexed_documents};
 use crate::documents::offsets::byte_of;
@@ -80,6 +80,23 @@ impl Server {
             },
             None => Ok(None),
         }
+    }
+
+    /// Notes which files a renaming that the message asks for leaves as they are, since they are left out.
+    pub(crate) fn note_unrenamed(&mut self, message: &Value) -> Result<(), AllocError>
+        ensures { OnOk result (session_of self.new ≡ session_of self.old) }
+    {
+        let Some(uri) = uri_of(message) else {
+            return Ok(());
+        };
+        let Some(open) = self.documents.get(uri) else {
+            return Ok(());
+        };
+        let workspace = &self.workspace;
+        let scope = scope_of(Some(Method::Rename), workspace, open.path_or(uri));
+        let mut notices = workspace.unrenamed_notices(self.alloc, scope)?;
+        self.notices.append(&mut notices)?;
+        Ok(())
     }
 
     /// The edits by which the name at the place has the new name of the request, or why it can't have it.

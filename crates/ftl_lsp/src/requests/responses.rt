@@ -59,7 +59,13 @@ impl Server {
                 self.code_actions(message)?.ok_or(ErrorCode::InvalidParams),
             ),
             Some(Method::WorkspaceSymbol) => Ok(Ok(self.workspace_symbols(message)?)),
-            Some(Method::Rename) => self.rename(message),
+            Some(Method::Rename) => {
+                let edits = self.rename(message)?;
+                if edits.is_ok() {
+                    self.note_unrenamed(message)?;
+                }
+                Ok(edits)
+            }
             Some(Method::Formatting) => Ok(
                 self.formatting(message)?.ok_or(ErrorCode::InvalidParams),
             ),

@@ -11,8 +11,8 @@ use fluent_syntax_names::Severity;
 use serde_json::{Value, json};
 use std::alloc::{AllocError, Global};
 
-/// What is shown to the user: that a document with this name is not formatted, that a file is left out, or what is
-/// wrong with settings.
+/// What is shown to the user: that a document with this name is not formatted, that a file is left out or not renamed
+/// in, or what is wrong with settings.
 #[derive(Clone, PartialEq, Drop)]
 pub enum Notice {
     /// The document nests too deep.
@@ -23,6 +23,8 @@ pub enum Notice {
     NotReadBack(String),
     /// The file of this name is left out where names are looked for, and why.
     LeftOut(String, LeftOutReason),
+    /// The file of this name is left out, so a renaming doesn't change it.
+    NotRenamed(String),
     /// The `ftl.toml` of the folder can't be gone by, and why.
     WrongSettings(String, String),
 }
@@ -79,6 +81,9 @@ impl Notice {
                 "{name} is not formatted: what would be written does not read back"
             ),
             Notice::LeftOut(name, reason) => reason.sentence(alloc, name.as_str()),
+            Notice::NotRenamed(name) => {
+                format!(in alloc; "{name} is left out, so nothing is renamed there")
+            }
             Notice::WrongSettings(folder, fault) => format!(in alloc; "{folder}/ftl.toml: {fault}"),
         }
     }
