@@ -177,7 +177,7 @@ impl Workspace {
         None
     }
 
-    /// A notice of each file that is left out of the scope, which a renaming is made in. `AllocError` where a growth was
+    /// A notice of each file of the scope that is left out, and so of a renaming there. `AllocError` where a growth was
     /// refused.
     pub fn unrenamed_notices(
         &self,

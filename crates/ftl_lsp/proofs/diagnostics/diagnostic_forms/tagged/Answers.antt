@@ -11,9 +11,9 @@ use Rattle.ftl_lsp.specs.declared.diagnostics.diagnostic_forms.LintDiagnosticKin
 use Rattle.ftl_lsp.proofs.diagnostics.diagnostic_forms.tagged.Goals as goal
 
 object_with_tags_is_tagged : (kind : LintDiagnosticKind) (form tags : Value)
-    (before after : BTreeMap (String Global) Value) (key : String Global) → is_faded kind ≡ true → form ≡ Object before →
-    after.entries ≡ insert_entry string_cmp before.entries key tags → string_bytes key ≡ codes "tags" →
-    view tags ≡ unnecessary → view (Object after) ≡ tagged kind (view form)
+    (before after : BTreeMap (String Global) Value) (key : String Global) → is_faded kind ≡ true →
+    form ≡ Object before → after.entries ≡ insert_entry string_cmp before.entries key tags →
+    string_bytes key ≡ codes "tags" → view tags ≡ unnecessary → view (Object after) ≡ tagged kind (view form)
 object_with_tags_is_tagged kind form tags before after key faded is inserted named tagging =
     let members = members_view before.entries in
     view-Object after
